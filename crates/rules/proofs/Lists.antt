@@ -1,0 +1,48 @@
+-- Laws of listed values: their number, the value at a place, and an array of m places that a loop fills from the front.
+use mathlib.Core.Path.{_≡_, refl, sym, ap, _∙_}
+use mathlib.Core.List.{List, [], _∷_, _++_, append-assoc}
+use Prim.Native.Nat.{ℕ, zero, suc, _+_, _-_, _≤_, _<_}
+use native.Mathlib.Numerals.{add-one}
+use native.Mathlib.Omega.{arith}
+use native.Mathlib.Decide.{decLe}
+use lib.ListN.{length, getD, set, replicate, length-append, length-replicate, List·getD-append}
+use lib.Seq.{set-at, getD-at}
+use Rattle.rules.specs.Lists.{listed}
+
+module _ {A : Type 0} (f : ℕ → A) where
+  pub length-listed : (n : ℕ) → length (listed f n) ≡ n
+  unfolding listed
+  length-listed zero = refl
+  length-listed (suc n) = simp (length-append, length-listed n, add-one)
+
+  pub getD-listed : (n i : ℕ) (d : A) → i < n → getD (listed f n) i d ≡ f i
+  unfolding listed
+  getD-listed zero i d h = absurd (omega arith)
+  getD-listed (suc n) i d h = go (getD-listed n i d) (decLe (suc i) n)
+    where
+      go : (i < n → getD (listed f n) i d ≡ f i) → Dec (suc i ≤ n) → getD (listed f n ++ (f n ∷ [])) i d ≡ f i
+      go before (yes l) =
+          let e : length (listed f n) ≡ n = length-listed n in
+          List·getD-append (listed f n) (f n ∷ []) d i (omega arith) ∙ before l
+      go before (no l) =
+          let e : n ≡ i = omega (arith, l) in
+          getD-at (listed f n) (f n) [] d i (length-listed n ∙ e) ∙ ap f e
+
+  -- an array of m places: the first n are f's, the others hold x
+  abbrev pub filled : A → ℕ → ℕ → List A
+  filled x m n = listed f n ++ replicate (m - n) x
+
+  pub filled-none : (x : A) (m : ℕ) → replicate m x ≡ filled x m 0
+  unfolding listed
+  filled-none x m = let e : m ≡ m - 0 = omega arith in ap (λ (k : ℕ). replicate k x) e
+
+  pub length-filled : (x : A) (m n : ℕ) → n ≤ m → length (filled x m n) ≡ m
+  length-filled x m n h = simp (length-append, length-listed, length-replicate) (omega arith)
+
+  pub filled-more : (x : A) (m n : ℕ) → n < m → set (filled x m n) n (f n) ≡ filled x m (n + 1)
+  unfolding listed
+  filled-more x m n h =
+      let e : m - n ≡ suc (m - (n + 1)) = omega arith in
+      rw (e, add-one n)
+      (set-at (listed f n) x (replicate (m - suc n) x) (f n) n (length-listed n)
+      ∙ sym (append-assoc (listed f n) (f n ∷ []) (replicate (m - suc n) x)))

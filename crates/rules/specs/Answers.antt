@@ -1,0 +1,81 @@
+-- Document 01, "Where a refusal arises": what a call answers, and the numbers of the refusals.
+-- Each answer of the engine is an enum; the definitions at the end give the document's numbers and values for each of its cases.
+use mathlib.Core.Bool.{Bool, cond}
+use mathlib.Core.List.{List, [], _∷_}
+use Prim.Native.Nat.{ℕ}
+use Rattle.rules.specs.declared.OrderFault.{OrderFault}
+use Rattle.rules.specs.declared.OrderFault.the-variants.{Kind, Terms, Quantity, Ignored}
+use Rattle.rules.specs.declared.Refusal.{Refusal}
+use Rattle.rules.specs.declared.Refusal.the-variants.{FewWords, HeadingKind, HeadingPrice, Length, Order, Argument, Band}
+use Rattle.rules.specs.declared.Checked.{Checked}
+use Rattle.rules.specs.declared.Checked.the-variants.{Accepted, Refused}
+use Rattle.rules.specs.declared.PriceAnswer.{PriceAnswer}
+use Rattle.rules.specs.declared.PriceAnswer.the-variants.{At, Refused as NoPrice}
+use Rattle.rules.specs.declared.BandAnswer.{BandAnswer}
+use Rattle.rules.specs.declared.BandAnswer.the-variants.{Bounds, Refused as NoBand}
+
+-- What a call answers: the numbers that it gives, or a refusal with its number and order number.
+pub data Answer : Type 0 where
+  gives : List ℕ → Answer
+  refuses : ℕ → ℕ → Answer
+
+-- A row of the table: the refusal's number, the order number that it returns, and whether it arises.
+pub record Check : Type 0 where
+  pub number : ℕ
+  pub order : ℕ
+  pub arises : Bool
+
+-- A row whose order number is 0.
+abbrev pub row : ℕ → Bool → Check
+row number arises = record { number = number; order = 0; arises = arises }
+
+-- Checks run downwards. A refusal returns its number and, for 5–8, the order number, else 0.
+unfoldable pub downwards : List Check → Answer → Answer
+downwards [] a = a
+downwards (c ∷ cs) a = cond (c .arises) (refuses (c .number) (c .order)) (downwards cs a)
+
+-- 5 a wrong kind in its three words; 6 disposition or limit not allowed; 7 quantity out of range;
+-- 8 ignored quantity out of range, or above 0 on no Stepper.
+abbrev pub faultNumber : OrderFault → ℕ
+faultNumber Kind = 5
+faultNumber Terms = 6
+faultNumber Quantity = 7
+faultNumber Ignored = 8
+
+-- 1 fewer than 5 words; 2 a wrong kind in words 0–4; 3 a price off the grid, or not D < I < H;
+-- 4 n above 120, or wrong length; 5–8 at an order; 9 arguments; 11 band.
+abbrev pub refusalNumber : Refusal → ℕ
+refusalNumber FewWords = 1
+refusalNumber HeadingKind = 2
+refusalNumber HeadingPrice = 3
+refusalNumber Length = 4
+refusalNumber (Order f k) = faultNumber f
+refusalNumber Argument = 9
+refusalNumber Band = 11
+
+-- For 5–8, the order number, else 0.
+abbrev pub refusalOrder : Refusal → ℕ
+refusalOrder FewWords = 0
+refusalOrder HeadingKind = 0
+refusalOrder HeadingPrice = 0
+refusalOrder Length = 0
+refusalOrder (Order f k) = k
+refusalOrder Argument = 0
+refusalOrder Band = 0
+
+abbrev pub refused : Refusal → Answer
+refused r = refuses (refusalNumber r) (refusalOrder r)
+
+-- A sheet that is accepted gives nothing more.
+abbrev pub checkAnswer : Checked → Answer
+checkAnswer Accepted = gives []
+checkAnswer (Refused r) = refused r
+
+abbrev pub priceAnswer : PriceAnswer → Answer
+priceAnswer (At p) = gives (p .0 ∷ [])
+priceAnswer (NoPrice r) = refused r
+
+-- The lower bound, then the upper.
+abbrev pub bandAnswer : BandAnswer → Answer
+bandAnswer (Bounds lower upper) = gives (lower .0 ∷ upper .0 ∷ [])
+bandAnswer (NoBand r) = refused r

@@ -1,0 +1,148 @@
+// The types that the rules of document 01 and the engine share, and the refusals with their numbers.
+ghost use mathlib.Core.Path.{_≡_};
+ghost use Rattle.rules.specs.Grid.{onGrid};
+ghost use Rattle.rules.specs.Answers.{faultNumber, refusalNumber, refusalOrder};
+
+// A price counts steps of ten hellers.
+pub struct Price(pub u32);
+
+// A quantity counts pieces.
+pub struct Pieces(pub u32);
+
+// The last price of the grid, which starts at 1.
+pub const LAST_PRICE: u32 = 1000000;
+
+// Whether a number is a price of the grid.
+pub fn on_grid(price: u32) -> bool
+    ensures { λ r. ⌜ r ≡ onGrid price ⌝ }
+{
+    (1 <= price) & (price <= LAST_PRICE)
+}
+
+// A word of a sheet or of a result: its kind is the top 4 bits, its value the low 28.
+pub struct Word {
+    pub kind: u32,
+    pub value: u32,
+}
+
+pub enum Side {
+    Buy,
+    Sell,
+}
+
+// An order is without limit, limited, or a Stepper that carries its ignored quantity.
+// All-or-none belongs to the first two.
+pub enum Terms {
+    WithoutLimit { all_or_none: bool },
+    Limited { limit: Price, all_or_none: bool },
+    Stepper { limit: Price, ignored: Pieces },
+}
+
+pub struct Order {
+    pub side: Side,
+    pub terms: Terms,
+    pub quantity: Pieces,
+}
+
+// The heading of a sheet: the band's bounds, the last purchase price, the indicative price and the
+// number of orders.
+pub struct Heading {
+    pub lower: Price,
+    pub upper: Price,
+    pub last: Price,
+    pub indicative: Price,
+    pub count: usize,
+}
+
+// What may be wrong with an order.
+pub enum OrderFault {
+    // A wrong kind in its three words.
+    Kind,
+    // Disposition or limit not allowed.
+    Terms,
+    // Quantity out of range.
+    Quantity,
+    // Ignored quantity out of range, or above 0 on no Stepper.
+    Ignored,
+}
+
+// Why a call refuses.
+pub enum Refusal {
+    // Fewer than 5 words.
+    FewWords,
+    // A wrong kind in words 0 to 4.
+    HeadingKind,
+    // A price off the grid, or not D < I < H.
+    HeadingPrice,
+    // More than 120 orders, or a wrong length.
+    Length,
+    // A fault of the order of this number.
+    Order(OrderFault, usize),
+    // An argument that is not allowed.
+    Argument,
+    // A band that cannot be had.
+    Band,
+}
+
+impl OrderFault {
+    pub fn number(self) -> u32
+        ensures { λ r. ⌜ r ≡ faultNumber self ⌝ }
+    {
+        match self {
+            OrderFault::Kind => 5,
+            OrderFault::Terms => 6,
+            OrderFault::Quantity => 7,
+            OrderFault::Ignored => 8,
+        }
+    }
+}
+
+impl Refusal {
+    // The number of document 01.
+    pub fn number(self) -> u32
+        ensures { λ r. ⌜ r ≡ refusalNumber self ⌝ }
+    {
+        match self {
+            Refusal::FewWords => 1,
+            Refusal::HeadingKind => 2,
+            Refusal::HeadingPrice => 3,
+            Refusal::Length => 4,
+            Refusal::Order(fault, _) => fault.number(),
+            Refusal::Argument => 9,
+            Refusal::Band => 11,
+        }
+    }
+
+    // The order number of refusals 5 to 8, else 0.
+    pub fn order(self) -> usize
+        ensures { λ r. ⌜ r ≡ refusalOrder self ⌝ }
+    {
+        match self {
+            Refusal::FewWords => 0,
+            Refusal::HeadingKind => 0,
+            Refusal::HeadingPrice => 0,
+            Refusal::Length => 0,
+            Refusal::Order(_, order) => order,
+            Refusal::Argument => 0,
+            Refusal::Band => 0,
+        }
+    }
+}
+
+// The answer of the check of a sheet.
+pub enum Checked {
+    Accepted,
+    Refused(Refusal),
+}
+
+// The answer of a call that gives a price.
+pub enum PriceAnswer {
+    At(Price),
+    Refused(Refusal),
+}
+
+// The answer of a call that gives a band.
+pub enum BandAnswer {
+    Bounds { lower: Price, upper: Price },
+    Refused(Refusal),
+}

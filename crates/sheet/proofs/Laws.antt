@@ -1,0 +1,160 @@
+-- Laws of the reading, over plain values. The proofs of the functions hand their facts over to these.
+-- The reading of the orders keeps, after i of them: their places are filled, the place is the next order's first word, and
+-- no check of theirs arises. One more order keeps it, a faulty one stops the whole table, and the last one makes the sheet pass.
+use mathlib.Core.Path.{_≡_, refl, sym, ap, _∙_}
+use mathlib.Core.Bool.{Bool, not, _&&_}
+use mathlib.Core.List.{List, [], _∷_, _++_}
+use Prim.Native.Nat.{ℕ, zero, suc, _+_, _-_, _*_, _≤_, _<_}
+use native.Mathlib.Numerals.{add-one}
+use native.Mathlib.Omega.{arith}
+use native.Mathlib.Decide.{decLe}
+use lib.ListN.{length, set, replicate}
+use Rattle.rules.specs.Words.{wordAt}
+use Rattle.rules.specs.Answers.{gives, refuses, downwards, faultNumber, refusalNumber, refusalOrder}
+use Rattle.rules.specs.Sheet.{headingKinds, headingFrom, pricesOnGrid, bandEncloses, lengthFits, headingOf, orderFrom, orderAt, checksIn, ordersOf, headingChecks, orderChecks, ordersChecks, sheetChecks, checkSheet, noOrder, mostOrders, headingRead, placesRead}
+use Rattle.rules.specs.declared.Word.{Word}
+use Rattle.rules.specs.declared.Refusal.{Refusal}
+use Rattle.rules.specs.declared.Refusal.the-variants.{Order as OrderRefusal}
+use Rattle.rules.specs.declared.Checked.the-variants.{Accepted}
+use Rattle.rules.specs.declared.OrderFault.{OrderFault}
+use Rattle.rules.specs.declared.Order.{Order}
+use Rattle.rules.specs.declared.Heading.{Heading}
+use Rattle.rules.proofs.Lists.{filled, filled-none, filled-more}
+use Rattle.rules.proofs.Downwards.{Clear, Stops, nothing-left, clear-append, stops-first, stops-after}
+use Rattle.rules.proofs.Accepted.{SoundHeading, heading-passes}
+use Rattle.sheet.specs.Reading.{frontOf, tripleAt, ReadsAs, refusedReading, HeadingReadsAs, OrderCheckedAs, OrderReadsAs}
+use Rattle.sheet.specs.declared.Reading.{Reading}
+use Rattle.sheet.specs.declared.cursor.Cursor.{Cursor}
+use Rattle.sheet.specs.declared.heading.Front.{Front}
+use Rattle.sheet.specs.declared.heading.HeadingRead.{HeadingRead}
+use Rattle.sheet.specs.declared.heading.HeadingRead.the-variants.{Passed as PassedHeading, Refused as RefusedHeading}
+use Rattle.sheet.specs.declared.orders.Triple.{Triple}
+use Rattle.sheet.specs.declared.orders.OrderChecked.{OrderChecked}
+use Rattle.sheet.specs.declared.orders.OrderChecked.the-variants.{Passed as PassedChecks, Faulty as FaultyChecks}
+use Rattle.sheet.specs.declared.orders.OrderRead.{OrderRead}
+use Rattle.sheet.specs.declared.orders.OrderRead.the-variants.{Passed as PassedOrder, Faulty as FaultyOrder}
+
+-- ---- the heading
+
+-- the heading made of the sheet's five words is the sheet's
+pub headed : (ws : List ℕ) {f : Front} {h : Heading} → f ≡ frontOf ws
+    → h ≡ headingFrom (f .lower) (f .upper) (f .last) (f .indicative) (f .count) → h ≡ headingOf ws
+unfolding headingOf
+headed ws e made = rw e at made
+
+-- what a test said of what was read, the row says of the sheet
+pub kinds-row : (ws : List ℕ) {f : Front} {t r : Bool} → f ≡ frontOf ws
+    → t ≡ not (headingKinds (f .lower) (f .upper) (f .last) (f .indicative) (f .count)) → t ≡ r
+    → not (headingKinds (wordAt ws 0) (wordAt ws 1) (wordAt ws 2) (wordAt ws 3) (wordAt ws 4)) ≡ r
+kinds-row ws e told out = sym (rw e at told) ∙ out
+
+pub prices-row : (ws : List ℕ) {h : Heading} {t r : Bool} → h ≡ headingOf ws → t ≡ not (pricesOnGrid h && bandEncloses h) → t ≡ r
+    → not (pricesOnGrid (headingOf ws) && bandEncloses (headingOf ws)) ≡ r
+prices-row ws e told out = sym (rw e at told) ∙ out
+
+pub length-row : (ws : List ℕ) {h : Heading} {t r : Bool} → h ≡ headingOf ws → t ≡ not (lengthFits (h .count) (length ws)) → t ≡ r
+    → not (lengthFits (headingOf ws .count) (length ws)) ≡ r
+length-row ws e told out = sym (rw e at told) ∙ out
+
+-- ---- a refused sheet
+
+-- a table that stops makes the sheet refused, and nothing is handed on
+pub refused-reading : (ws : List ℕ) (r : Refusal) → Stops (sheetChecks ws) (refusalNumber r) (refusalOrder r) → ReadsAs ws (refusedReading r)
+unfolding checkSheet headingRead placesRead
+refused-reading ws r p =
+    let e : checkSheet ws ≡ refuses (refusalNumber r) (refusalOrder r) = p .refuses-all (gives []) in
+    record { checked = sym e; heading = rw e; orders = rw e }
+
+pub refused-heading : (ws : List ℕ) {h : HeadingRead} {r : Refusal} → HeadingReadsAs ws h → h ≡ RefusedHeading r → ReadsAs ws (refusedReading r)
+unfolding sheetChecks
+refused-heading ws {h} {r} reads e = refused-reading ws r (stops-first _ (rw e at reads))
+
+-- ---- an order
+
+pub two-on : (n : ℕ) → n + 1 + 1 ≡ n + 2
+two-on n = omega arith
+
+pub three-on : (n : ℕ) → n + 2 + 1 ≡ n + 3
+three-on n = omega arith
+
+pub passed-order : (ws : List ℕ) (at : ℕ) {t : Triple} {r : OrderChecked} {o : Order} → t ≡ tripleAt ws at → OrderCheckedAs t r
+    → r ≡ PassedChecks → o ≡ orderFrom (t .first) (t .second) (t .third) → OrderReadsAs ws at (PassedOrder o (t .next))
+passed-order ws at e checked p made = (rw e at (rw p at checked), rw e at made, ap (λ (t : Triple). t .next .at) e)
+
+pub faulty-order : (ws : List ℕ) (at : ℕ) {t : Triple} {r : OrderChecked} {f : OrderFault} → t ≡ tripleAt ws at → OrderCheckedAs t r
+    → r ≡ FaultyChecks f → OrderReadsAs ws at (FaultyOrder f)
+faulty-order ws at e checked p = rw e at (rw p at checked)
+
+-- ---- the orders, read one after the other
+
+-- what the loop knows after i orders
+pub record SoFar (ws : List ℕ) (count : ℕ) (orders : List Order) (cursor : Cursor) (i : ℕ) : Type 0 where
+  pub counted : count ≡ headingOf ws .count
+  pub fits : count ≤ mostOrders
+  pub words : length ws ≡ 5 + 3 * count
+  pub few : i ≤ count
+  pub place : cursor .at ≡ 5 + 3 * i
+  pub places : orders ≡ filled (orderAt ws) noOrder mostOrders i
+  pub clear : Clear (ordersChecks ws i)
+
+pub so-far-none : (ws : List ℕ) {heading : Heading} {start : Cursor} {none : Order} → HeadingReadsAs ws (PassedHeading heading start)
+    → none ≡ noOrder → SoFar ws (heading .count) (replicate mostOrders none) start 0
+unfolding ordersChecks
+so-far-none ws {heading} reads e =
+    let passes = heading-passes ws (reads .0) in
+    let counted : heading .count ≡ headingOf ws .count = ap (λ (h : Heading). h .count) (reads .1) in
+    record {
+      counted = counted;
+      fits = rw counted (passes .0 .count);
+      words = rw counted (passes .1);
+      few = omega arith;
+      place = reads .2;
+      places = rw e (filled-none (orderAt ws) noOrder mostOrders);
+      clear = nothing-left;
+    }
+
+-- a fault of a later order leaves the table stopped
+stops-later : (ws : List ℕ) (m n : ℕ) {a b : ℕ} → m ≤ n → Stops (ordersChecks ws m) a b → Stops (ordersChecks ws n) a b
+unfolding ordersChecks
+stops-later ws m zero less p = let e : m ≡ 0 = omega arith in rw e at p
+stops-later ws m (suc n) {a} {b} less p = go (λ l. stops-later ws m n l p) (decLe m n)
+  where
+    go : (m ≤ n → Stops (ordersChecks ws n) a b) → Dec (m ≤ n) → Stops (ordersChecks ws n ++ checksIn ws (5 + 3 * n) n) a b
+    go earlier (yes l) = stops-first _ (earlier l)
+    go earlier (no l) = let e : m ≡ suc n = omega (arith, l) in rw e at p
+
+module _ (ws : List ℕ) {count : ℕ} {orders : List Order} {cursor : Cursor} {i : ℕ} (so-far : SoFar ws count orders cursor i) where
+  pub so-far-more : {r : OrderRead} {o : Order} {next : Cursor} → i < count → OrderReadsAs ws (cursor .at) r → r ≡ PassedOrder o next
+      → SoFar ws count (set orders i o) next (i + 1)
+  unfolding ordersChecks orderAt
+  so-far-more {r} {o} more reads e =
+      let order = rw e at reads in
+      let made : o ≡ orderAt ws i = rw (so-far .place) at (order .1) in
+      let checked : Clear (checksIn ws (5 + 3 * i) i) = rw (so-far .place) at (order .0 i) in
+      let f = so-far .fits in
+      record {
+        counted = so-far .counted;
+        fits = so-far .fits;
+        words = so-far .words;
+        few = omega arith;
+        place = omega (arith, order .2, so-far .place);
+        places = rw (so-far .places, made) (filled-more (orderAt ws) noOrder mostOrders i (omega arith));
+        clear = rw (add-one i) (clear-append (so-far .clear) checked);
+      }
+
+  pub faulty-reading : {r : OrderRead} {f : OrderFault} → Clear (headingChecks ws) → i < count → OrderReadsAs ws (cursor .at) r
+      → r ≡ FaultyOrder f → ReadsAs ws (refusedReading (OrderRefusal f i))
+  unfolding ordersChecks sheetChecks
+  faulty-reading {r} {f} heading more reads e =
+      let fault = rw (so-far .place) at ((rw e at reads) i) in
+      let stopped : Stops (ordersChecks ws (suc i)) (faultNumber f) i = stops-after (so-far .clear) fault in
+      let n = so-far .counted in
+      refused-reading ws (OrderRefusal f i) (stops-after heading (stops-later ws (suc i) (headingOf ws .count) (omega arith) stopped))
+
+  pub accepted-reading : {heading : Heading} {start : Cursor} → HeadingReadsAs ws (PassedHeading heading start) → count ≤ i
+      → ReadsAs ws (record { checked = Accepted; heading = heading; orders = orders })
+  unfolding checkSheet sheetChecks headingRead placesRead ordersOf
+  accepted-reading reads done =
+      let last : i ≡ headingOf ws .count = omega (arith, so-far .few, so-far .counted) in
+      let e : checkSheet ws ≡ gives [] = clear-append (reads .0) (rw last at (so-far .clear)) .hands-on (gives []) in
+      record { checked = sym e; heading = rw e (reads .1); orders = rw e (rw last at (so-far .places)) }

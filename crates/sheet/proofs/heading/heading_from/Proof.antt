@@ -1,0 +1,16 @@
+-- `heading_from` meets its contract: field by field, as the definition.
+use mathlib.Core.Path.{refl}
+use Rattle.rules.specs.Sheet.{headingFrom}
+use borrow.Author.Needs.{needs}
+use Rattle.sheet.proofs.heading.heading_from.Statement.{statement}
+use Rattle.sheet.proofs.heading.heading_from.Tie as tie
+
+cast-t6 : tie.Need-cast-t6
+cast-t6 c = search needs
+
+returns : tie.Need-returns
+unfolding headingFrom
+returns c = refl
+
+pub heading-from-spec : {M : Type 1} → statement M
+heading-from-spec = tie.close (tie.spec cast-t6 returns)

@@ -1,0 +1,120 @@
+// The heading of a sheet, words 0 to 4, and its checks, refusals 1 to 4.
+ghost use mathlib.Core.Path.{_≡_};
+ghost use mathlib.Core.Bool.{not, _&&_};
+ghost use Prim.Native.Nat.{_≤_};
+ghost use lib.ListN.{length};
+ghost use Rattle.rules.specs.Sheet.{headingKinds, headingFrom, pricesOnGrid, bandEncloses, lengthFits};
+ghost use Rattle.sheet.specs.Reading.{frontOf, HeadingReadsAs};
+use crate::cursor::Cursor;
+use rules::Heading;
+use rules::Price;
+use rules::Refusal;
+use rules::Word;
+use rules::on_grid;
+
+// The five words of a heading, and the place after them.
+pub struct Front {
+    pub lower: Word,
+    pub upper: Word,
+    pub last: Word,
+    pub indicative: Word,
+    pub count: Word,
+    pub next: Cursor,
+}
+
+// The heading and the place after it, or why it is refused.
+pub enum HeadingRead {
+    Passed(Heading, Cursor),
+    Refused(Refusal),
+}
+
+fn read_front(words: &[u32]) -> Front
+    requires { ⌜ 5 ≤ length (now words) ⌝ }
+    ensures { λ r. ⌜ r ≡ frontOf (now (words .entry)) ⌝ }
+{
+    let lower = Cursor::start().step(words);
+    let upper = lower.next.step(words);
+    let last = upper.next.step(words);
+    let indicative = last.next.step(words);
+    let count = indicative.next.step(words);
+    let a = lower.word;
+    let b = upper.word;
+    let c = last.word;
+    let d = indicative.word;
+    let e = count.word;
+    let next = count.next;
+    Front {
+        lower: a,
+        upper: b,
+        last: c,
+        indicative: d,
+        count: e,
+        next,
+    }
+}
+
+// Refusal 2: a wrong kind in words 0 to 4.
+fn wrong_kinds(f: Front) -> bool
+    ensures { λ r. ⌜ r ≡ not (headingKinds (f .lower) (f .upper) (f .last) (f .indicative) (f .count)) ⌝ }
+{
+    !((f.lower.kind == 1)
+        & (f.upper.kind == 2)
+        & (f.last.kind == 3)
+        & (f.indicative.kind == 4)
+        & (f.count.kind == 5))
+}
+
+fn heading_from(f: Front) -> Heading
+    ensures { λ r. ⌜ r ≡ headingFrom (f .lower) (f .upper) (f .last) (f .indicative) (f .count) ⌝ }
+{
+    Heading {
+        lower: Price(f.lower.value),
+        upper: Price(f.upper.value),
+        last: Price(f.last.value),
+        indicative: Price(f.indicative.value),
+        count: f.count.value as usize,
+    }
+}
+
+// Refusal 3: a price off the grid, or not D < I < H.
+fn wrong_prices(h: Heading) -> bool
+    ensures { λ r. ⌜ r ≡ not (pricesOnGrid h && bandEncloses h) ⌝ }
+{
+    let grid = on_grid(h.lower.0)
+        & on_grid(h.upper.0)
+        & on_grid(h.last.0)
+        & on_grid(h.indicative.0);
+    !(grid & ((h.lower.0 < h.indicative.0) & (h.indicative.0 < h.upper.0)))
+}
+
+// Refusal 4: more than 120 orders, or a wrong length.
+fn wrong_length(count: usize, words: usize) -> bool
+    ensures { λ r. ⌜ r ≡ not (lengthFits count words) ⌝ }
+{
+    if 120 < count {
+        return true;
+    }
+    words != 5 + 3 * count
+}
+
+// Reads the heading, its checks run downwards.
+pub fn read_heading(words: &[u32]) -> HeadingRead
+    ensures { λ r. ⌜ HeadingReadsAs (now (words .entry)) r ⌝ }
+{
+    if words.len() < 5 {
+        return HeadingRead::Refused(Refusal::FewWords);
+    }
+    let front = read_front(words);
+    if wrong_kinds(front) {
+        return HeadingRead::Refused(Refusal::HeadingKind);
+    }
+    let heading = heading_from(front);
+    if wrong_prices(heading) {
+        return HeadingRead::Refused(Refusal::HeadingPrice);
+    }
+    if wrong_length(heading.count, words.len()) {
+        return HeadingRead::Refused(Refusal::Length);
+    }
+    let next = front.next;
+    HeadingRead::Passed(heading, next)
+}
