@@ -1,7 +1,7 @@
 -- What is known of every accepted sheet: its prices are on the grid, its quantities from 1 to 1,000,000, its length fits.
 -- In an accepted sheet no row of the table arises; each row that does not arise is one of the facts below.
 use mathlib.Core.Path.{_≡_, refl, subst, sym}
-use mathlib.Core.Bool.{Bool, true, false, not, _&&_, _||_, cond, and-eq-true-iff}
+use mathlib.Core.Bool.{Bool, true, false, not, _&&_, _||_, cond}
 use mathlib.Core.List.{List, [], _∷_, _++_}
 use Prim.Native.Nat.{ℕ, zero, suc, _+_, _*_, _≤_, _<_}
 use native.Mathlib.Omega.{arith}
@@ -9,7 +9,7 @@ use native.Mathlib.Decide.{decLe}
 use borrow.Author.Tests.{leb-true, ltb-true, eqb-true, not-false, ltb-false}
 use lib.Dec.{leb, ltb, eqb}
 use lib.ListN.{length, getD}
-use Rattle.rules.specs.Grid.{lastPrice, onGrid}
+use Rattle.rules.specs.Grid.{onGrid}
 use Rattle.rules.specs.Words.{wordAt}
 use Rattle.rules.specs.Answers.{Answer, gives, Check, row}
 use Rattle.rules.specs.Sheet.{headingOf, pricesOnGrid, bandEncloses, lengthFits, mostOrders, orderKinds, dispositionIn, limitIn, termsAllowed, quantityAllowed, ignoredAllowed, termsOf, orderFrom, orderAt, ordersOf, headingChecks, orderChecks, ordersChecks, sheetChecks, checkSheet, noOrder}
@@ -18,11 +18,9 @@ use Rattle.rules.specs.declared.Terms.{Terms}
 use Rattle.rules.specs.declared.Terms.the-variants.{WithoutLimit, Limited, Stepper}
 use Rattle.rules.specs.declared.Order.{Order}
 use Rattle.rules.specs.declared.Heading.{Heading}
+use Rattle.rules.proofs.Grid.{OnGrid, both, on-grid}
 use Rattle.rules.proofs.Lists.{getD-listed}
 use Rattle.rules.proofs.Downwards.{Clear, given-clear, clear-row, clear-rest, clear-left, clear-right}
-
-abbrev pub OnGrid : ℕ → Type 0
-OnGrid p = (1 ≤ p) × (p ≤ lastPrice)
 
 pub record SoundHeading (h : Heading) : Type 0 where
   pub lower : OnGrid (h .lower .0)
@@ -49,14 +47,6 @@ pub record SoundSheet (ws : List ℕ) : Type 0 where
   pub words : length ws ≡ 5 + 3 * headingOf ws .count
   pub orders : (k : ℕ) → k < headingOf ws .count → SoundOrder (getD (ordersOf ws) k noOrder)
 
--- both of two tests that hold together hold
-both : {a b : Bool} → (a && b) ≡ true → (a ≡ true) × (b ≡ true)
-both {a} {b} e = and-eq-true-iff a b .0 e
-
-on-grid : {p : ℕ} → onGrid p ≡ true → OnGrid p
-unfolding onGrid
-on-grid {p} e = let t = both e in (leb-true 1 p (t .0), leb-true p lastPrice (t .1))
-
 sound-heading : (h : Heading) → pricesOnGrid h ≡ true → bandEncloses h ≡ true → leb (h .count) mostOrders ≡ true
     → SoundHeading h
 unfolding pricesOnGrid bandEncloses
@@ -66,10 +56,10 @@ sound-heading h grid encloses few =
     let one = both (two .0) in
     let sides = both encloses in
     record {
-      lower = on-grid (one .0);
-      upper = on-grid (one .1);
-      last = on-grid (two .1);
-      indicative = on-grid (three .1);
+      lower = on-grid _ (one .0);
+      upper = on-grid _ (one .1);
+      last = on-grid _ (two .1);
+      indicative = on-grid _ (three .1);
       above-lower = ltb-true _ _ (sides .0);
       below-upper = ltb-true _ _ (sides .1);
       count = leb-true _ _ few;
@@ -96,10 +86,10 @@ sound-terms disposition limit ignored allowed few =
     go : (stepper none : Bool) → (none && not stepper || onGrid limit) ≡ true → ignored ≤ 1000000
         → SoundTerms (cond stepper (Stepper (record { 0 = limit }) (record { 0 = ignored }))
         (cond none (WithoutLimit (eqb disposition 1)) (Limited (record { 0 = limit }) (eqb disposition 1))))
-    go true true e g = (on-grid e, g)
-    go true false e g = (on-grid e, g)
+    go true true e g = (on-grid limit e, g)
+    go true false e g = (on-grid limit e, g)
     go false true e g = tt
-    go false false e g = on-grid e
+    go false false e g = on-grid limit e
 
 -- rows 6 to 8 of an order that passes
 sound-order : (k : ℕ) (a b c : Word) → Clear (orderChecks k a b c) → SoundOrder (orderFrom a b c)

@@ -1,5 +1,6 @@
 -- Laws that follow from the rules, and the ruleset that closes a return whose promise goes by tests.
 pub mod Tests
+pub mod Grid
 pub mod Lists
 pub mod Downwards
 pub mod Accepted

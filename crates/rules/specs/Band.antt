@@ -30,10 +30,6 @@ indicativePrice D H traded closing auction =
 
 -- ---- The next band
 
--- Shares (code 0) have 20 percent and certificates (code 1) have 25.
-unfoldable pub percentOf : ℕ → ℕ
-percentOf code = cond (eqb code 0) 20 25
-
 -- Upper is I × (100 + q) / 100 rounded down; then an upper equal to I goes up 1.
 abbrev pub upperRounded : ℕ → ℕ → ℕ
 upperRounded q I = I * (100 + q) / 100
@@ -48,14 +44,18 @@ lowerRounded q I = roundedUp (I * (100 - q)) 100
 unfoldable pub nextLower : ℕ → ℕ → ℕ
 nextLower q I = cond (eqb (lowerRounded q I) I) (I - 1) (lowerRounded q I)
 
--- 9: a price off the grid, unknown code. 11: next band with I = 1, or a new upper bound above 1,000,000.
+-- Next band for percent q. 11: next band with I = 1, or a new upper bound above 1,000,000.
+unfoldable pub nextBandFor : ℕ → ℕ → Answer
+nextBandFor q I =
+    downwards (row 11 (eqb I 1 || ltb lastPrice (nextUpper q I)) ∷ []) (gives (nextLower q I ∷ nextUpper q I ∷ []))
+
+-- Shares (code 0) have 20 percent and certificates (code 1) have 25.
+unfoldable pub percentOf : ℕ → ℕ
+percentOf code = cond (eqb code 0) 20 25
+
+-- 9: a price off the grid, unknown code.
 unfoldable pub nextBand : ℕ → ℕ → Answer
-nextBand code I =
-    downwards
-    (row 9 (not (leb code 1 && onGrid I))
-    ∷ row 11 (eqb I 1 || ltb lastPrice (nextUpper (percentOf code) I))
-    ∷ [])
-    (gives (nextLower (percentOf code) I ∷ nextUpper (percentOf code) I ∷ []))
+nextBand code I = downwards (row 9 (not (leb code 1 && onGrid I)) ∷ []) (nextBandFor (percentOf code) I)
 
 -- ---- Widening after waiting
 
@@ -66,11 +66,11 @@ widenedUpper side H = cond (eqb side 0) (11 * H / 10) H
 unfoldable pub widenedLower : ℕ → ℕ → ℕ
 widenedLower side D = cond (eqb side 0) D (roundedUp (9 * D) 10)
 
--- 9: a price off the grid, D not below H, unknown side. 11: a new upper bound above 1,000,000.
+-- 11: a new upper bound above 1,000,000.
+unfoldable pub widenedFor : ℕ → ℕ → ℕ → Answer
+widenedFor D H side =
+    downwards (row 11 (ltb lastPrice (widenedUpper side H)) ∷ []) (gives (widenedLower side D ∷ widenedUpper side H ∷ []))
+
+-- 9: a price off the grid, D not below H, unknown side.
 unfoldable pub widenedBand : ℕ → ℕ → ℕ → Answer
-widenedBand D H side =
-    downwards
-    (row 9 (not (bandStands D H && leb side 1))
-    ∷ row 11 (ltb lastPrice (widenedUpper side H))
-    ∷ [])
-    (gives (widenedLower side D ∷ widenedUpper side H ∷ []))
+widenedBand D H side = downwards (row 9 (not (bandStands D H && leb side 1)) ∷ []) (widenedFor D H side)

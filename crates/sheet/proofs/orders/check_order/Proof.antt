@@ -1,4 +1,5 @@
 -- `check_order` meets its contract: each test is a row of the order's table, in the same order.
+use mathlib.Core.Path.{sym, _∙_}
 use Rattle.rules.proofs.Downwards.{here, there, passed, nothing-left}
 use Rattle.rules.specs.Sheet.{orderChecks}
 use borrow.Author.Needs.{needs}
@@ -10,32 +11,49 @@ wrong-kinds-requires c κs = search needs
 
 returns : tie.Need-returns
 unfolding orderChecks
-returns c = λ k. here (cc)
+returns c = λ k. here (sym (c .before .wrong-kinds .ensures) ∙ c .if1 .taken)
 
 wrong-terms-requires : tie.Need-wrong-terms-requires
 wrong-terms-requires c κs = search needs
 
 returns-2 : tie.Need-returns-2
 unfolding orderChecks
-returns-2 c = λ k. there (cc) (here (cc))
+returns-2 c =
+    λ k.
+    there (sym (c .before .before .before .before .before .wrong-kinds .ensures) ∙ c .before .before .before .before .if1 .left)
+    (here (sym (c .before .wrong-terms .ensures) ∙ c .if2 .taken))
 
 wrong-quantity-requires : tie.Need-wrong-quantity-requires
 wrong-quantity-requires c κs = search needs
 
 returns-3 : tie.Need-returns-3
 unfolding orderChecks
-returns-3 c = λ k. there (cc) (there (cc) (here (cc)))
+returns-3 c =
+    λ k.
+    there (sym (c .before .before .before .before .before .before .before .wrong-kinds .ensures) ∙ c .before .before .before .before .before .before .if1 .left)
+    (there (sym (c .before .before .before .wrong-terms .ensures) ∙ c .before .before .if2 .left)
+    (here (sym (c .before .wrong-quantity .ensures) ∙ c .if3 .taken)))
 
 wrong-ignored-requires : tie.Need-wrong-ignored-requires
 wrong-ignored-requires c κs = search needs
 
 returns-4 : tie.Need-returns-4
 unfolding orderChecks
-returns-4 c = λ k. there (cc) (there (cc) (there (cc) (here (cc))))
+returns-4 c =
+    λ k.
+    there (sym (c .before .before .before .before .before .before .before .before .before .wrong-kinds .ensures) ∙ c .before .before .before .before .before .before .before .before .if1 .left)
+    (there (sym (c .before .before .before .before .before .wrong-terms .ensures) ∙ c .before .before .before .before .if2 .left)
+    (there (sym (c .before .before .before .wrong-quantity .ensures) ∙ c .before .before .if3 .left)
+    (here (sym (c .before .wrong-ignored .ensures) ∙ c .if4 .taken))))
 
 returns-5 : tie.Need-returns-5
 unfolding orderChecks
-returns-5 c = λ k. passed (cc) (passed (cc) (passed (cc) (passed (cc) nothing-left)))
+returns-5 c =
+    λ k.
+    passed (sym (c .before .before .before .before .before .before .before .before .before .wrong-kinds .ensures) ∙ c .before .before .before .before .before .before .before .before .if1 .left)
+    (passed (sym (c .before .before .before .before .before .wrong-terms .ensures) ∙ c .before .before .before .before .if2 .left)
+    (passed (sym (c .before .before .before .wrong-quantity .ensures) ∙ c .before .before .if3 .left)
+    (passed (sym (c .before .wrong-ignored .ensures) ∙ c .if4 .left) nothing-left)))
 
 pub check-order-spec : {M : Type 1} → statement M
 check-order-spec =

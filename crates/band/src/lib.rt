@@ -1,0 +1,110 @@
+// Document 01, "Indicative price and band": the three calls about bands. Their arguments may be any
+// numbers: what is not allowed is refused.
+mod rule;
+
+ghost use mathlib.Core.Path.{_≡_};
+ghost use Prim.Native.Nat.{_≤_};
+ghost use Rattle.rules.specs.Grid.{movedInto};
+ghost use Rattle.rules.specs.Answers.{priceAnswer, bandAnswer};
+ghost use Rattle.rules.specs.Band.{bandStands, indicativePrice, nextBand, widenedFor, widenedBand};
+use rule::BandRule;
+use rules::BandAnswer;
+use rules::LAST_PRICE;
+use rules::Price;
+use rules::PriceAnswer;
+use rules::Refusal;
+use rules::on_grid;
+
+// Whether two numbers are bounds of a band.
+fn band_stands(lower: u32, upper: u32) -> bool
+    ensures { λ r. ⌜ r ≡ bandStands lower upper ⌝ }
+{
+    on_grid(lower) & on_grid(upper) & (lower < upper)
+}
+
+// A price moved to the nearer bound when outside the band.
+fn moved_into(lower: u32, upper: u32, price: u32) -> u32
+    ensures { λ r. ⌜ r ≡ movedInto lower upper price ⌝ }
+{
+    if price < lower {
+        lower
+    } else if upper < price {
+        upper
+    } else {
+        price
+    }
+}
+
+// The call that gives the indicative price, from the band, the count of pieces traded, the closing
+// purchase price and the last auction price.
+pub fn indicative_price(
+    lower: u32,
+    upper: u32,
+    traded: u64,
+    closing: u32,
+    auction: u32,
+) -> PriceAnswer
+    ensures { λ r. ⌜ priceAnswer r ≡ indicativePrice lower upper traded closing auction ⌝ }
+{
+    let stands = band_stands(lower, upper);
+    if 0 < traded {
+        if stands & on_grid(closing) {
+            return PriceAnswer::At(Price(closing));
+        }
+        return PriceAnswer::Refused(Refusal::Argument);
+    }
+    if stands & on_grid(auction) {
+        return PriceAnswer::At(Price(moved_into(lower, upper, auction)));
+    }
+    PriceAnswer::Refused(Refusal::Argument)
+}
+
+// The call that gives the next band of shares (code 0) or certificates (code 1) around an indicative
+// price.
+pub fn next_band(code: u32, indicative: u32) -> BandAnswer
+    ensures { λ r. ⌜ bandAnswer r ≡ nextBand code indicative ⌝ }
+{
+    if (code <= 1) & on_grid(indicative) {
+        return BandRule::for_code(code).next(Price(indicative));
+    }
+    BandAnswer::Refused(Refusal::Argument)
+}
+
+// The band with its upper bound 11 × H / 10, rounded down.
+fn widened_up(lower: u32, upper: u32) -> BandAnswer
+    requires { ⌜ upper ≤ 1000000 ⌝ }
+    ensures { λ r. ⌜ bandAnswer r ≡ widenedFor lower upper 0 ⌝ }
+{
+    let wider = 11 * upper / 10;
+    if LAST_PRICE < wider {
+        return BandAnswer::Refused(Refusal::Band);
+    }
+    BandAnswer::Bounds {
+        lower: Price(lower),
+        upper: Price(wider),
+    }
+}
+
+// The band with its lower bound 9 × D / 10, rounded up.
+fn widened_down(lower: u32, upper: u32) -> BandAnswer
+    requires { ⌜ (lower ≤ 1000000) × (upper ≤ 1000000) ⌝ }
+    ensures { λ r. ⌜ bandAnswer r ≡ widenedFor lower upper 1 ⌝ }
+{
+    BandAnswer::Bounds {
+        lower: Price((9 * lower + 9) / 10),
+        upper: Price(upper),
+    }
+}
+
+// The call that widens a band after waiting: side 0 its upper bound, side 1 its lower.
+pub fn widened_band(lower: u32, upper: u32, side: u32) -> BandAnswer
+    ensures { λ r. ⌜ bandAnswer r ≡ widenedBand lower upper side ⌝ }
+{
+    if band_stands(lower, upper) & (side <= 1) {
+        if side == 0 {
+            return widened_up(lower, upper);
+        }
+        return widened_down(lower, upper);
+    }
+    BandAnswer::Refused(Refusal::Argument)
+}
