@@ -1,0 +1,100 @@
+// Answers the calls of document 01 from standard input, one a line, each with a line of its own:
+//
+//     check WORD ..                    the words of a sheet, in hexadecimal
+//     indicative D H COUNT CLOSING AUCTION
+//     next CODE I
+//     widen D H SIDE
+//
+// Fields stand after single spaces, decimal except for words. An answer is `accepted`, the numbers that
+// the call gives, or `refused`, number and order number. A line that starts with `#` is printed as it
+// stands, an empty line has no answer, and one that cannot be read is answered `unreadable`.
+mod answers;
+mod fields;
+
+use answers::answer;
+
+// A line that is being read: its length so far, and whether it is too long to be kept.
+struct Line {
+    len: usize,
+    lost: bool,
+}
+
+// Adds a byte to the line, or answers the line where it ends.
+fn take(line: Line, byte: u8, text: &mut [u8]) -> Line {
+    let len = line.len;
+    if byte == b'\n' {
+        if len <= text.len() {
+            if line.lost {
+                answers::unreadable();
+            } else {
+                answer(&text[..len]);
+            }
+        }
+        return Line {
+            len: 0,
+            lost: false,
+        };
+    }
+    if len < text.len() {
+        text[len] = byte;
+        return Line {
+            len: len + 1,
+            lost: line.lost,
+        };
+    }
+    Line { len, lost: true }
+}
+
+fn take_all(line: Line, bytes: &[u8], text: &mut [u8]) -> Line {
+    let mut line = line;
+    let mut i = 0;
+    while i < bytes.len() {
+        line = take(line, bytes[i], text);
+        i += 1;
+    }
+    line
+}
+
+// Whether to go on, and the line that is being read.
+struct Read {
+    more: bool,
+    line: Line,
+}
+
+fn read_some(line: Line, text: &mut [u8]) -> Read {
+    let mut buffer = io::buffer();
+    let got = libc::read(0, &mut buffer);
+    if got <= 0 {
+        return Read { more: false, line };
+    }
+    let n = io::count(got, &buffer);
+    let line = take_all(line, &buffer[..n], text);
+    Read { more: true, line }
+}
+
+// Reads to the end of the input, and hands back the last line where its end is missing. A proved loop
+// has to end, so it counts its turns down from a number that no run uses up.
+fn read_all(text: &mut [u8]) -> Line {
+    let mut line = Line {
+        len: 0,
+        lost: false,
+    };
+    let mut turns = u64::MAX;
+    while 0 < turns {
+        let read = read_some(line, text);
+        line = read.line;
+        if !read.more {
+            return line;
+        }
+        turns -= 1;
+    }
+    line
+}
+
+fn main() {
+    let mut text = io::buffer();
+    let line = read_all(&mut text);
+    if 0 < line.len {
+        take(line, b'\n', &mut text);
+    }
+}
