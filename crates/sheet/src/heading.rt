@@ -97,7 +97,7 @@ fn wrong_length(count: usize, words: usize) -> bool
     words != 5 + 3 * count
 }
 
-// Reads the heading, its checks run downwards.
+// Reads the heading. Its checks run downwards.
 pub fn read_heading(words: &[u32]) -> HeadingRead
     ensures { λ r. ⌜ HeadingReadsAs (now (words .entry)) r ⌝ }
 {
@@ -105,14 +105,17 @@ pub fn read_heading(words: &[u32]) -> HeadingRead
         return HeadingRead::Refused(Refusal::FewWords);
     }
     let front = read_front(words);
-    if wrong_kinds(front) {
+    let heading = heading_from(front);
+    let kinds = wrong_kinds(front);
+    let prices = wrong_prices(heading);
+    let length = wrong_length(heading.count, words.len());
+    if kinds {
         return HeadingRead::Refused(Refusal::HeadingKind);
     }
-    let heading = heading_from(front);
-    if wrong_prices(heading) {
+    if prices {
         return HeadingRead::Refused(Refusal::HeadingPrice);
     }
-    if wrong_length(heading.count, words.len()) {
+    if length {
         return HeadingRead::Refused(Refusal::Length);
     }
     let next = front.next;

@@ -91,18 +91,22 @@ fn wrong_ignored(disposition: u32, ignored: u32) -> bool
 fn check_order(t: Triple) -> OrderChecked
     ensures { λ r. ⌜ OrderCheckedAs t r ⌝ }
 {
-    if wrong_kinds(t) {
-        return OrderChecked::Faulty(OrderFault::Kind);
-    }
     let limit = t.first.value % 0x100_0000;
     let disposition = t.first.value / 0x100_0000;
-    if wrong_terms(disposition, limit) {
+    let kinds = wrong_kinds(t);
+    let terms = wrong_terms(disposition, limit);
+    let quantity = wrong_quantity(t.second.value);
+    let ignored = wrong_ignored(disposition, t.third.value);
+    if kinds {
+        return OrderChecked::Faulty(OrderFault::Kind);
+    }
+    if terms {
         return OrderChecked::Faulty(OrderFault::Terms);
     }
-    if wrong_quantity(t.second.value) {
+    if quantity {
         return OrderChecked::Faulty(OrderFault::Quantity);
     }
-    if wrong_ignored(disposition, t.third.value) {
+    if ignored {
         return OrderChecked::Faulty(OrderFault::Ignored);
     }
     OrderChecked::Passed

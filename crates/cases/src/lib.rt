@@ -1,0 +1,1 @@
+// Document 01's worked cases, about the rules alone: specs/ has the table, proofs/ its proof.
