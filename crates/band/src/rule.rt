@@ -9,18 +9,18 @@ use rules::Price;
 use rules::Refusal;
 
 // How far the next band reaches from the indicative price, in percent of it.
-pub struct BandRule {
+pub(crate) struct BandRule {
     pub percent: u32,
 }
 
 impl BandRule {
-    pub const SHARES_CODE: u32 = 0;
+    pub(crate) const SHARES_CODE: u32 = 0;
 
-    pub const SHARES_PERCENT: u32 = 20;
+    pub(crate) const SHARES_PERCENT: u32 = 20;
 
-    pub const CERTIFICATES_PERCENT: u32 = 25;
+    pub(crate) const CERTIFICATES_PERCENT: u32 = 25;
 
-    pub fn shares() -> BandRule
+    pub(crate) fn shares() -> BandRule
         ensures { λ r. ⌜ r .percent ≡ 20 ⌝ }
     {
         BandRule {
@@ -28,7 +28,7 @@ impl BandRule {
         }
     }
 
-    pub fn certificates() -> BandRule
+    pub(crate) fn certificates() -> BandRule
         ensures { λ r. ⌜ r .percent ≡ 25 ⌝ }
     {
         BandRule {
@@ -37,7 +37,7 @@ impl BandRule {
     }
 
     // The rule of a known code.
-    pub fn for_code(code: u32) -> BandRule
+    pub(crate) fn for_code(code: u32) -> BandRule
         ensures { λ r. ⌜ r .percent ≡ percentOf code ⌝ }
     {
         if code == BandRule::SHARES_CODE {
@@ -68,7 +68,7 @@ impl BandRule {
     }
 
     // The next band around an indicative price.
-    pub fn next(self, indicative: Price) -> BandAnswer
+    pub(crate) fn next(self, indicative: Price) -> BandAnswer
         requires { ⌜ (self .percent ≤ 100) × (1 ≤ indicative .0) × (indicative .0 ≤ 1000000) ⌝ }
         ensures { λ r. ⌜ bandAnswer r ≡ nextBandFor (self .percent) (indicative .0) ⌝ }
     {

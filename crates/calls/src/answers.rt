@@ -15,7 +15,7 @@ fn print_refusal(refusal: Refusal) {
     io::write_all(1, b"\n");
 }
 
-pub fn unreadable() {
+pub(crate) fn unreadable() {
     io::write_all(1, b"unreadable\n");
 }
 
@@ -117,7 +117,7 @@ fn answer_band(name: &[u8], text: &[u8]) {
     }
 }
 
-pub fn answer(line: &[u8]) {
+pub(crate) fn answer(line: &[u8]) {
     if line.len() == 0 {
         return;
     }

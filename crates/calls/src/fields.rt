@@ -3,14 +3,14 @@ ghost use Prim.Native.Nat.{_≤_};
 ghost use lib.ListN.{length};
 
 // The most fields that a line may have: more than any sheet has words.
-pub const MOST: usize = 400;
+pub(crate) const MOST: usize = 400;
 
-pub enum Number {
+pub(crate) enum Number {
     Is(u64),
     Unreadable,
 }
 
-pub enum Fields {
+pub(crate) enum Fields {
     Count(usize),
     Unreadable,
 }
@@ -80,7 +80,7 @@ fn spelled(text: &[u8], hex: bool) -> Number {
 }
 
 // The place of the first space from a place on, or the end.
-pub fn field_end(text: &[u8], from: usize) -> usize
+pub(crate) fn field_end(text: &[u8], from: usize) -> usize
     requires { ⌜ from ≤ length (now text) ⌝ }
     ensures { λ r. ⌜ (from ≤ r) × (r ≤ length (now (text .entry))) ⌝ }
 {
@@ -95,7 +95,7 @@ pub fn field_end(text: &[u8], from: usize) -> usize
 }
 
 // Reads the fields of a text in which each stands after a space.
-pub fn read_fields(text: &[u8], hex: bool, fields: &mut [u64; 400]) -> Fields {
+pub(crate) fn read_fields(text: &[u8], hex: bool, fields: &mut [u64; 400]) -> Fields {
     let mut count: usize = 0;
     let mut at: usize = 0;
     while at < text.len() {

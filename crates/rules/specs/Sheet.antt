@@ -1,13 +1,13 @@
 -- Document 01, "Sheet", and refusals 1–8 of "Where a refusal arises".
 use mathlib.Core.Bool.{Bool, false, not, _&&_, _||_, cond}
 use mathlib.Core.List.{List, [], _∷_, _++_}
-use Prim.Native.Nat.{ℕ, zero, suc, _+_, _-_, _*_, _/_, _%_}
+use Prim.Native.Nat.{ℕ, zero, suc, _+_, _*_, _/_, _%_}
 use lib.Dec.{leb, ltb, eqb}
-use lib.ListN.{length, replicate}
+use lib.ListN.{length}
 use Rattle.rules.specs.Lists.{listed}
 use Rattle.rules.specs.Grid.{onGrid}
 use Rattle.rules.specs.Words.{wordAt}
-use Rattle.rules.specs.Answers.{Answer, gives, refuses, Check, row, downwards}
+use Rattle.rules.specs.Answers.{Answer, gives, Check, row, downwards}
 use Rattle.rules.specs.declared.Word.{Word}
 use Rattle.rules.specs.declared.Side.{Side}
 use Rattle.rules.specs.declared.Side.the-variants.{Buy, Sell}
@@ -149,33 +149,6 @@ sheetChecks ws = headingChecks ws ++ ordersChecks ws (headingOf ws .count)
 unfoldable pub checkSheet : List ℕ → Answer
 checkSheet ws = downwards (sheetChecks ws) (gives [])
 
--- ---- What the reading of a sheet hands on
-
 -- What stands at a place that holds no order.
 abbrev pub noOrder : Order
 noOrder = record { side = Buy; terms = WithoutLimit false; quantity = record { 0 = 0 } }
-
-abbrev pub noHeading : Heading
-noHeading = record {
-  lower = record { 0 = 0 };
-  upper = record { 0 = 0 };
-  last = record { 0 = 0 };
-  indicative = record { 0 = 0 };
-  count = 0;
-}
-
--- A value for each answer: one where the call gives something, one where it refuses.
-abbrev pub whenGiven : {A : Type 0} → Answer → A → A → A
-whenGiven (gives vs) x y = x
-whenGiven (refuses n k) x y = y
-
--- The heading of an accepted sheet; of a refused one nothing is handed on.
-unfoldable pub headingRead : List ℕ → Heading
-headingRead ws = whenGiven (checkSheet ws) (headingOf ws) noHeading
-
--- The 120 places of an accepted sheet: its orders, and the rest hold none; of a refused one no order is handed on.
-unfoldable pub placesRead : List ℕ → List Order
-placesRead ws =
-    whenGiven (checkSheet ws)
-    (ordersOf ws ++ replicate (mostOrders - headingOf ws .count) noOrder)
-    (replicate mostOrders noOrder)

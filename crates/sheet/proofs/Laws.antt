@@ -11,7 +11,7 @@ use native.Mathlib.Decide.{decLe}
 use lib.ListN.{length, set, replicate}
 use Rattle.rules.specs.Words.{wordAt}
 use Rattle.rules.specs.Answers.{gives, refuses, downwards, faultNumber, refusalNumber, refusalOrder}
-use Rattle.rules.specs.Sheet.{headingKinds, headingFrom, pricesOnGrid, bandEncloses, lengthFits, headingOf, orderFrom, orderAt, checksIn, ordersOf, headingChecks, orderChecks, ordersChecks, sheetChecks, checkSheet, noOrder, mostOrders, headingRead, placesRead}
+use Rattle.rules.specs.Sheet.{headingKinds, headingFrom, pricesOnGrid, bandEncloses, lengthFits, headingOf, orderFrom, orderAt, checksIn, ordersOf, headingChecks, orderChecks, ordersChecks, sheetChecks, checkSheet, noOrder, mostOrders}
 use Rattle.rules.specs.declared.Word.{Word}
 use Rattle.rules.specs.declared.Refusal.{Refusal}
 use Rattle.rules.specs.declared.Refusal.the-variants.{Order as OrderRefusal}
@@ -22,7 +22,8 @@ use Rattle.rules.specs.declared.Heading.{Heading}
 use Rattle.rules.proofs.Lists.{filled, filled-none, filled-more}
 use Rattle.rules.proofs.Downwards.{Clear, Stops, nothing-left, clear-append, stops-first, stops-after}
 use Rattle.rules.proofs.Accepted.{SoundHeading, heading-passes}
-use Rattle.sheet.specs.Reading.{frontOf, tripleAt, ReadsAs, refusedReading, HeadingReadsAs, OrderCheckedAs, OrderReadsAs}
+use Rattle.sheet.specs.Reading.{headingRead, placesRead, ReadsAs}
+use Rattle.sheet.specs.Steps.{frontOf, tripleAt, refusedReading, HeadingReadsAs, OrderCheckedAs, OrderReadsAs}
 use Rattle.sheet.specs.declared.Reading.{Reading}
 use Rattle.sheet.specs.declared.cursor.Cursor.{Cursor}
 use Rattle.sheet.specs.declared.heading.Front.{Front}

@@ -6,24 +6,24 @@ ghost use Rattle.rules.specs.Words.{wordAt};
 use rules::Word;
 
 // A place among the words of a sheet.
-pub struct Cursor {
+pub(crate) struct Cursor {
     pub at: usize,
 }
 
 // The word at a place, and the place after it.
-pub struct Step {
+pub(crate) struct Step {
     pub word: Word,
     pub next: Cursor,
 }
 
 impl Cursor {
-    pub fn start() -> Cursor
+    pub(crate) fn start() -> Cursor
         ensures { λ r. ⌜ r .at ≡ 0 ⌝ }
     {
         Cursor { at: 0 }
     }
 
-    pub fn step(self, words: &[u32]) -> Step
+    pub(crate) fn step(self, words: &[u32]) -> Step
         requires { ⌜ self .at < length (now words) ⌝ }
         ensures { λ r. ⌜ r ≡ record { word = wordAt (now (words .entry)) (self .at); next = record { at = self .at + 1 } } ⌝ }
     {

@@ -4,7 +4,7 @@ ghost use mathlib.Core.Bool.{not, _&&_};
 ghost use Prim.Native.Nat.{_≤_};
 ghost use lib.ListN.{length};
 ghost use Rattle.rules.specs.Sheet.{headingKinds, headingFrom, pricesOnGrid, bandEncloses, lengthFits};
-ghost use Rattle.sheet.specs.Reading.{frontOf, HeadingReadsAs};
+ghost use Rattle.sheet.specs.Steps.{frontOf, HeadingReadsAs};
 use crate::cursor::Cursor;
 use rules::Heading;
 use rules::Price;
@@ -13,7 +13,7 @@ use rules::Word;
 use rules::on_grid;
 
 // The five words of a heading, and the place after them.
-pub struct Front {
+pub(crate) struct Front {
     pub lower: Word,
     pub upper: Word,
     pub last: Word,
@@ -23,7 +23,7 @@ pub struct Front {
 }
 
 // The heading and the place after it, or why it is refused.
-pub enum HeadingRead {
+pub(crate) enum HeadingRead {
     Passed(Heading, Cursor),
     Refused(Refusal),
 }
@@ -98,7 +98,7 @@ fn wrong_length(count: usize, words: usize) -> bool
 }
 
 // Reads the heading. Its checks run downwards.
-pub fn read_heading(words: &[u32]) -> HeadingRead
+pub(crate) fn read_heading(words: &[u32]) -> HeadingRead
     ensures { λ r. ⌜ HeadingReadsAs (now (words .entry)) r ⌝ }
 {
     if words.len() < 5 {

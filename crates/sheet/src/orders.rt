@@ -4,7 +4,8 @@ ghost use mathlib.Core.Bool.{not};
 ghost use Prim.Native.Nat.{_+_, _≤_};
 ghost use lib.ListN.{length};
 ghost use Rattle.rules.specs.Sheet.{orderKinds, termsAllowed, quantityAllowed, ignoredAllowed, sideOf, termsOf, orderFrom, noOrder};
-ghost use Rattle.sheet.specs.Reading.{tripleAt, OrderCheckedAs, OrderReadsAs, HeadingReadsAs, refusedReading, ReadsAs};
+ghost use Rattle.sheet.specs.Reading.{ReadsAs};
+ghost use Rattle.sheet.specs.Steps.{tripleAt, OrderCheckedAs, OrderReadsAs, HeadingReadsAs, refusedReading};
 ghost use Rattle.sheet.specs.declared.heading.HeadingRead.the-variants.{Passed as PassedHeading};
 use crate::Reading;
 use crate::cursor::Cursor;
@@ -21,7 +22,7 @@ use rules::Word;
 use rules::on_grid;
 
 // The three words of an order, and the place after them.
-pub struct Triple {
+pub(crate) struct Triple {
     pub first: Word,
     pub second: Word,
     pub third: Word,
@@ -29,13 +30,13 @@ pub struct Triple {
 }
 
 // Whether an order passes its checks.
-pub enum OrderChecked {
+pub(crate) enum OrderChecked {
     Passed,
     Faulty(OrderFault),
 }
 
 // An order and the place after it, or its fault.
-pub enum OrderRead {
+pub(crate) enum OrderRead {
     Passed(Order, Cursor),
     Faulty(OrderFault),
 }
@@ -179,7 +180,7 @@ fn no_order() -> Order
 }
 
 // The reading of a refused sheet: nothing but the refusal.
-pub fn nothing_read(refusal: Refusal) -> Reading
+pub(crate) fn nothing_read(refusal: Refusal) -> Reading
     ensures { λ r. ⌜ r ≡ refusedReading refusal ⌝ }
 {
     let none = no_order();
@@ -197,7 +198,7 @@ pub fn nothing_read(refusal: Refusal) -> Reading
 }
 
 // Reads the orders that follow a heading, lowest number first.
-pub fn read_orders(words: &[u32], heading: Heading, start: Cursor) -> Reading
+pub(crate) fn read_orders(words: &[u32], heading: Heading, start: Cursor) -> Reading
     requires { ⌜ HeadingReadsAs (now words) (PassedHeading heading start) ⌝ }
     ensures { λ r. ⌜ ReadsAs (now (words .entry)) r ⌝ }
 {

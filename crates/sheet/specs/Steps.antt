@@ -1,0 +1,60 @@
+-- The steps of the reading, for the promises inside this crate: what each finds, in the terms of the rules.
+use mathlib.Core.Path.{_≡_}
+use mathlib.Core.List.{List}
+use Prim.Native.Nat.{ℕ, _+_}
+use lib.ListN.{replicate}
+use Rattle.rules.specs.Words.{wordAt}
+use Rattle.rules.specs.Answers.{faultNumber, refusalNumber, refusalOrder}
+use Rattle.rules.specs.Sheet.{mostOrders, headingOf, orderIn, headingChecks, orderChecks, checksIn, noOrder}
+use Rattle.rules.proofs.Downwards.{Clear, Stops}
+use Rattle.rules.specs.declared.Refusal.{Refusal}
+use Rattle.rules.specs.declared.Checked.the-variants.{Refused as RefusedSheet}
+use Rattle.sheet.specs.Reading.{noHeading}
+use Rattle.sheet.specs.declared.Reading.{Reading}
+use Rattle.sheet.specs.declared.heading.Front.{Front}
+use Rattle.sheet.specs.declared.heading.HeadingRead.{HeadingRead}
+use Rattle.sheet.specs.declared.heading.HeadingRead.the-variants.{Passed as PassedHeading, Refused as RefusedHeading}
+use Rattle.sheet.specs.declared.orders.Triple.{Triple}
+use Rattle.sheet.specs.declared.orders.OrderChecked.{OrderChecked}
+use Rattle.sheet.specs.declared.orders.OrderChecked.the-variants.{Passed as PassedChecks, Faulty as FaultyChecks}
+use Rattle.sheet.specs.declared.orders.OrderRead.{OrderRead}
+use Rattle.sheet.specs.declared.orders.OrderRead.the-variants.{Passed as PassedOrder, Faulty as FaultyOrder}
+
+-- The reading of a refused sheet.
+abbrev pub refusedReading : Refusal → Reading
+refusedReading r = record { checked = RefusedSheet r; heading = noHeading; orders = replicate mostOrders noOrder }
+
+-- The five words of the heading, and the place after them.
+abbrev pub frontOf : List ℕ → Front
+frontOf ws = record {
+  lower = wordAt ws 0;
+  upper = wordAt ws 1;
+  last = wordAt ws 2;
+  indicative = wordAt ws 3;
+  count = wordAt ws 4;
+  next = record { at = 5 };
+}
+
+-- A heading that passes is the sheet's, and none of its checks arises; one that is refused stops with its refusal.
+abbrev pub HeadingReadsAs : List ℕ → HeadingRead → Type 0
+HeadingReadsAs ws (PassedHeading h next) = Clear (headingChecks ws) × (h ≡ headingOf ws) × (next .at ≡ 5)
+HeadingReadsAs ws (RefusedHeading r) = Stops (headingChecks ws) (refusalNumber r) (refusalOrder r)
+
+-- The three words from a place on, and the place after them.
+abbrev pub tripleAt : List ℕ → ℕ → Triple
+tripleAt ws at = record {
+  first = wordAt ws at;
+  second = wordAt ws (at + 1);
+  third = wordAt ws (at + 2);
+  next = record { at = at + 3 };
+}
+
+-- An order's checks, whatever its number: none arises, or they stop with its fault.
+abbrev pub OrderCheckedAs : Triple → OrderChecked → Type 0
+OrderCheckedAs t PassedChecks = (k : ℕ) → Clear (orderChecks k (t .first) (t .second) (t .third))
+OrderCheckedAs t (FaultyChecks f) = (k : ℕ) → Stops (orderChecks k (t .first) (t .second) (t .third)) (faultNumber f) k
+
+-- The same of the order at a place; one that passes is what its three words say.
+abbrev pub OrderReadsAs : List ℕ → ℕ → OrderRead → Type 0
+OrderReadsAs ws at (PassedOrder o next) = ((k : ℕ) → Clear (checksIn ws at k)) × (o ≡ orderIn ws at) × (next .at ≡ at + 3)
+OrderReadsAs ws at (FaultyOrder f) = (k : ℕ) → Stops (checksIn ws at k) (faultNumber f) k
