@@ -1,13 +1,13 @@
 -- Laws of the band calls, over plain numbers: what a band that stands tells of its bounds, and that no product overflows.
-use mathlib.Core.Path.{_≡_}
 use mathlib.Core.Bool.{Bool, true, false, _&&_, cond}
-use Prim.Native.Nat.{ℕ, _+_, _*_, _≤_}
-use native.Mathlib.Omega.{arith}
+use mathlib.Core.Path.{_≡_}
+use Prim.Native.Nat.{ℕ, _*_, _≤_}
 use native.Mathlib.Nat.{mul-le-mul}
+use native.Mathlib.Omega.{arith}
 use lib.Dec.{leb, eqb}
 use borrow.Author.Tests.{leb-true}
-use Rattle.rules.specs.Grid.{onGrid}
 use Rattle.rules.specs.Band.{bandStands, percentOf}
+use Rattle.rules.specs.Grid.{onGrid}
 use Rattle.rules.proofs.Grid.{both, on-grid}
 
 -- the bounds of a band that stands are on the grid

@@ -23,12 +23,12 @@ fn band_stands(lower: u32, upper: u32) -> bool
 }
 
 // A price moved to the nearer bound when outside the band.
-fn moved_into(lower: u32, upper: u32, price: u32) -> u32
-    ensures { λ r. ⌜ r ≡ movedInto lower upper price ⌝ }
+fn moved_into(lower: Price, upper: Price, price: Price) -> Price
+    ensures { λ r. ⌜ r .0 ≡ movedInto (lower .0) (upper .0) (price .0) ⌝ }
 {
-    if price < lower {
+    if price.0 < lower.0 {
         lower
-    } else if upper < price {
+    } else if upper.0 < price.0 {
         upper
     } else {
         price
@@ -54,7 +54,7 @@ pub fn indicative_price(
         return PriceAnswer::Refused(Refusal::Argument);
     }
     if stands & on_grid(auction) {
-        return PriceAnswer::At(Price(moved_into(lower, upper, auction)));
+        return PriceAnswer::At(moved_into(Price(lower), Price(upper), Price(auction)));
     }
     PriceAnswer::Refused(Refusal::Argument)
 }
@@ -71,28 +71,28 @@ pub fn next_band(code: u32, indicative: u32) -> BandAnswer
 }
 
 // The band with its upper bound 11 × H / 10, rounded down.
-fn widened_up(lower: u32, upper: u32) -> BandAnswer
-    requires { ⌜ upper ≤ 1000000 ⌝ }
-    ensures { λ r. ⌜ bandAnswer r ≡ widenedFor lower upper 0 ⌝ }
+fn widened_up(lower: Price, upper: Price) -> BandAnswer
+    requires { ⌜ upper .0 ≤ 1000000 ⌝ }
+    ensures { λ r. ⌜ bandAnswer r ≡ widenedFor (lower .0) (upper .0) 0 ⌝ }
 {
-    let wider = 11 * upper / 10;
+    let wider = 11 * upper.0 / 10;
     if LAST_PRICE < wider {
         return BandAnswer::Refused(Refusal::Band);
     }
     BandAnswer::Bounds {
-        lower: Price(lower),
+        lower,
         upper: Price(wider),
     }
 }
 
 // The band with its lower bound 9 × D / 10, rounded up.
-fn widened_down(lower: u32, upper: u32) -> BandAnswer
-    requires { ⌜ (lower ≤ 1000000) × (upper ≤ 1000000) ⌝ }
-    ensures { λ r. ⌜ bandAnswer r ≡ widenedFor lower upper 1 ⌝ }
+fn widened_down(lower: Price, upper: Price) -> BandAnswer
+    requires { ⌜ (lower .0 ≤ 1000000) × (upper .0 ≤ 1000000) ⌝ }
+    ensures { λ r. ⌜ bandAnswer r ≡ widenedFor (lower .0) (upper .0) 1 ⌝ }
 {
     BandAnswer::Bounds {
-        lower: Price((9 * lower + 9) / 10),
-        upper: Price(upper),
+        lower: Price((9 * lower.0 + 9) / 10),
+        upper,
     }
 }
 
@@ -102,9 +102,9 @@ pub fn widened_band(lower: u32, upper: u32, side: u32) -> BandAnswer
 {
     if band_stands(lower, upper) & (side <= 1) {
         if side == 0 {
-            return widened_up(lower, upper);
+            return widened_up(Price(lower), Price(upper));
         }
-        return widened_down(lower, upper);
+        return widened_down(Price(lower), Price(upper));
     }
     BandAnswer::Refused(Refusal::Argument)
 }

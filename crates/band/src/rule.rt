@@ -48,23 +48,31 @@ impl BandRule {
     }
 
     // The upper bound, rounded down; one equal to the indicative price goes up 1.
-    fn upper(self, indicative: Price) -> u32
+    fn upper(self, indicative: Price) -> Price
         requires { ⌜ (self .percent ≤ 100) × (indicative .0 ≤ 1000000) ⌝ }
-        ensures { λ r. ⌜ r ≡ nextUpper (self .percent) (indicative .0) ⌝ }
+        ensures { λ r. ⌜ r .0 ≡ nextUpper (self .percent) (indicative .0) ⌝ }
     {
         let i = indicative.0;
         let rounded = i * (100 + self.percent) / 100;
-        if rounded == i { i + 1 } else { rounded }
+        if rounded == i {
+            Price(i + 1)
+        } else {
+            Price(rounded)
+        }
     }
 
     // The lower bound, rounded up; one equal to the indicative price goes down 1.
-    fn lower(self, indicative: Price) -> u32
+    fn lower(self, indicative: Price) -> Price
         requires { ⌜ (self .percent ≤ 100) × (1 ≤ indicative .0) × (indicative .0 ≤ 1000000) ⌝ }
-        ensures { λ r. ⌜ r ≡ nextLower (self .percent) (indicative .0) ⌝ }
+        ensures { λ r. ⌜ r .0 ≡ nextLower (self .percent) (indicative .0) ⌝ }
     {
         let i = indicative.0;
         let rounded = (i * (100 - self.percent) + 99) / 100;
-        if rounded == i { i - 1 } else { rounded }
+        if rounded == i {
+            Price(i - 1)
+        } else {
+            Price(rounded)
+        }
     }
 
     // The next band around an indicative price.
@@ -76,13 +84,10 @@ impl BandRule {
             return BandAnswer::Refused(Refusal::Band);
         }
         let upper = self.upper(indicative);
-        if LAST_PRICE < upper {
+        if LAST_PRICE < upper.0 {
             return BandAnswer::Refused(Refusal::Band);
         }
         let lower = self.lower(indicative);
-        BandAnswer::Bounds {
-            lower: Price(lower),
-            upper: Price(upper),
-        }
+        BandAnswer::Bounds { lower, upper }
     }
 }

@@ -1,19 +1,19 @@
 -- Every case of the table holds. A test of two answers is computed once over the whole table; what it tells of each case is
 -- shown once for any table.
-use mathlib.Core.Path.{_≡_, refl, ap}
 use mathlib.Core.Bool.{Bool, true, false, _&&_, false≢true}
 use mathlib.Core.List.{List, [], _∷_}
+use mathlib.Core.Path.{_≡_, refl, ap}
 use Prim.Native.Nat.{ℕ}
-use Rattle.rules.specs.Lists.{listed}
-use Rattle.rules.specs.Grid.{onGrid, movedInto}
 use lib.Dec.{eqb}
 use borrow.Author.Tests.{eqb-true}
 use Rattle.rules.specs.Answers.{Answer, gives, refuses, downwards}
-use Rattle.rules.specs.Sheet.{headingKinds, headingFrom, headingOf, pricesOnGrid, bandEncloses, lengthFits, orderKinds, termsAllowed, quantityAllowed, ignoredAllowed, sideOf, termsOf, orderFrom, orderAt, ordersOf, headingChecks, orderChecks, ordersChecks, sheetChecks, checkSheet}
 use Rattle.rules.specs.Band.{bandStands, indicativePrice, nextUpper, nextLower, nextBandFor, percentOf, nextBand, widenedUpper, widenedLower, widenedFor, widenedBand}
+use Rattle.rules.specs.Grid.{onGrid, movedInto}
+use Rattle.rules.specs.Lists.{listed}
+use Rattle.rules.specs.Sheet.{headingKinds, headingFrom, headingOf, pricesOnGrid, bandEncloses, lengthFits, orderKinds, termsAllowed, quantityAllowed, ignoredAllowed, sideOf, termsOf, orderFrom, orderAt, ordersOf, headingChecks, orderChecks, ordersChecks, sheetChecks, checkSheet}
+use Rattle.rules.proofs.Grid.{both}
 use Rattle.rules.specs.declared.Side.the-variants.{Buy, Sell}
 use Rattle.rules.specs.declared.Terms.the-variants.{Limited}
-use Rattle.rules.proofs.Grid.{both}
 use Rattle.cases.specs.Cases.{Case, AllHold, listing, cases}
 
 -- a test of two answers, and what it tells

@@ -1,10 +1,10 @@
 -- Worked cases of document 01 as one table with a common statement: the rules give what the document says.
-use mathlib.Core.Path.{_≡_}
 use mathlib.Core.List.{List, [], _∷_}
+use mathlib.Core.Path.{_≡_}
 use Prim.Native.Nat.{ℕ}
 use Rattle.rules.specs.Answers.{Answer, gives, refuses}
-use Rattle.rules.specs.Sheet.{checkSheet}
 use Rattle.rules.specs.Band.{indicativePrice, nextBand, widenedBand}
+use Rattle.rules.specs.Sheet.{checkSheet}
 
 -- What the rules give, and what the document says.
 pub record Case : Type 0 where

@@ -1,26 +1,25 @@
 -- What is known of every accepted sheet: its prices are on the grid, its quantities from 1 to 1,000,000, its length fits.
 -- In an accepted sheet no row of the table arises; each row that does not arise is one of the facts below.
-use mathlib.Core.Path.{_≡_, refl, subst, sym}
 use mathlib.Core.Bool.{Bool, true, false, not, _&&_, _||_, cond}
-use mathlib.Core.List.{List, [], _∷_, _++_}
+use mathlib.Core.List.{List, [], _++_}
+use mathlib.Core.Path.{_≡_}
 use Prim.Native.Nat.{ℕ, zero, suc, _+_, _*_, _≤_, _<_}
-use native.Mathlib.Omega.{arith}
 use native.Mathlib.Decide.{decLe}
-use borrow.Author.Tests.{leb-true, ltb-true, eqb-true, not-false, ltb-false}
-use lib.Dec.{leb, ltb, eqb}
+use native.Mathlib.Omega.{arith}
+use lib.Dec.{leb, eqb}
 use lib.ListN.{length, getD}
+use borrow.Author.Tests.{leb-true, ltb-true, eqb-true, not-false}
+use Rattle.rules.specs.Answers.{gives}
 use Rattle.rules.specs.Grid.{onGrid}
-use Rattle.rules.specs.Words.{wordAt}
-use Rattle.rules.specs.Answers.{Answer, gives, Check, row}
-use Rattle.rules.specs.Sheet.{headingOf, pricesOnGrid, bandEncloses, lengthFits, mostOrders, orderKinds, dispositionIn, limitIn, termsAllowed, quantityAllowed, ignoredAllowed, termsOf, orderFrom, orderAt, ordersOf, headingChecks, orderChecks, ordersChecks, sheetChecks, checkSheet, noOrder}
-use Rattle.rules.specs.declared.Word.{Word}
+use Rattle.rules.specs.Sheet.{headingOf, pricesOnGrid, bandEncloses, lengthFits, mostOrders, termsAllowed, quantityAllowed, ignoredAllowed, termsOf, orderFrom, orderAt, ordersOf, headingChecks, orderChecks, ordersChecks, sheetChecks, checkSheet, noOrder}
+use Rattle.rules.specs.declared.Heading.{Heading}
+use Rattle.rules.specs.declared.Order.{Order}
 use Rattle.rules.specs.declared.Terms.{Terms}
 use Rattle.rules.specs.declared.Terms.the-variants.{WithoutLimit, Limited, Stepper}
-use Rattle.rules.specs.declared.Order.{Order}
-use Rattle.rules.specs.declared.Heading.{Heading}
+use Rattle.rules.specs.declared.Word.{Word}
+use Rattle.rules.proofs.Downwards.{Clear, given-clear, clear-row, clear-rest, clear-left, clear-right}
 use Rattle.rules.proofs.Grid.{OnGrid, both, on-grid}
 use Rattle.rules.proofs.Lists.{getD-listed}
-use Rattle.rules.proofs.Downwards.{Clear, given-clear, clear-row, clear-rest, clear-left, clear-right}
 
 pub record SoundHeading (h : Heading) : Type 0 where
   pub lower : OnGrid (h .lower .0)

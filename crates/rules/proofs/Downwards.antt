@@ -1,8 +1,8 @@
 -- Laws of checks that run downwards: two tables one after the other, a table in which nothing arises, and one that stops.
 -- What a table does to one answer it does to every other: it hands each on, or refuses with the same numbers.
-use mathlib.Core.Path.{_≡_, refl}
 use mathlib.Core.Bool.{Bool, true, false, cond}
 use mathlib.Core.List.{List, [], _∷_, _++_}
+use mathlib.Core.Path.{_≡_, refl}
 use Prim.Native.Nat.{ℕ}
 use native.Mathlib.Omega.{arith}
 use Rattle.rules.specs.Answers.{Answer, gives, refuses, Check, downwards}

@@ -1,9 +1,9 @@
 -- What the tests of the grid tell.
-use mathlib.Core.Path.{_≡_}
 use mathlib.Core.Bool.{Bool, true, _&&_, and-eq-true-iff}
+use mathlib.Core.Path.{_≡_}
 use Prim.Native.Nat.{ℕ, _≤_}
-use borrow.Author.Tests.{leb-true}
 use lib.Dec.{leb}
+use borrow.Author.Tests.{leb-true}
 use Rattle.rules.specs.Grid.{lastPrice, onGrid}
 
 abbrev pub OnGrid : ℕ → Type 0

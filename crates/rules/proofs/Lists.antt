@@ -1,11 +1,11 @@
 -- Laws of listed values: their number, the value at a place, and an array of m places that a loop fills from the front.
-use mathlib.Core.Path.{_≡_, refl, sym, ap, _∙_}
 use mathlib.Core.List.{List, [], _∷_, _++_, append-assoc}
+use mathlib.Core.Path.{_≡_, refl, sym, ap, _∙_}
 use Prim.Native.Nat.{ℕ, zero, suc, _+_, _-_, _≤_, _<_}
+use native.Mathlib.Decide.{decLe}
 use native.Mathlib.Numerals.{add-one}
 use native.Mathlib.Omega.{arith}
-use native.Mathlib.Decide.{decLe}
-use lib.ListN.{length, getD, set, replicate, length-append, length-replicate, List·getD-append}
+use lib.ListN.{length, getD, set, replicate, length-append, List·getD-append}
 use lib.Seq.{set-at, getD-at}
 use Rattle.rules.specs.Lists.{listed}
 
@@ -35,9 +35,6 @@ module _ {A : Type 0} (f : ℕ → A) where
   pub filled-none : (x : A) (m : ℕ) → replicate m x ≡ filled x m 0
   unfolding listed
   filled-none x m = let e : m ≡ m - 0 = omega arith in ap (λ (k : ℕ). replicate k x) e
-
-  pub length-filled : (x : A) (m n : ℕ) → n ≤ m → length (filled x m n) ≡ m
-  length-filled x m n h = simp (length-append, length-listed, length-replicate) (omega arith)
 
   pub filled-more : (x : A) (m n : ℕ) → n < m → set (filled x m n) n (f n) ≡ filled x m (n + 1)
   unfolding listed

@@ -3,16 +3,16 @@
 use mathlib.Core.Bool.{Bool, cond}
 use mathlib.Core.List.{List, [], _∷_}
 use Prim.Native.Nat.{ℕ}
-use Rattle.rules.specs.declared.OrderFault.{OrderFault}
-use Rattle.rules.specs.declared.OrderFault.the-variants.{Kind, Terms, Quantity, Ignored}
-use Rattle.rules.specs.declared.Refusal.{Refusal}
-use Rattle.rules.specs.declared.Refusal.the-variants.{FewWords, HeadingKind, HeadingPrice, Length, Order, Argument, Band}
-use Rattle.rules.specs.declared.Checked.{Checked}
-use Rattle.rules.specs.declared.Checked.the-variants.{Accepted, Refused}
-use Rattle.rules.specs.declared.PriceAnswer.{PriceAnswer}
-use Rattle.rules.specs.declared.PriceAnswer.the-variants.{At, Refused as NoPrice}
 use Rattle.rules.specs.declared.BandAnswer.{BandAnswer}
 use Rattle.rules.specs.declared.BandAnswer.the-variants.{Bounds, Refused as NoBand}
+use Rattle.rules.specs.declared.Checked.{Checked}
+use Rattle.rules.specs.declared.Checked.the-variants.{Accepted, Refused}
+use Rattle.rules.specs.declared.OrderFault.{OrderFault}
+use Rattle.rules.specs.declared.OrderFault.the-variants.{Kind, Terms, Quantity, Ignored}
+use Rattle.rules.specs.declared.PriceAnswer.{PriceAnswer}
+use Rattle.rules.specs.declared.PriceAnswer.the-variants.{At, Refused as NoPrice}
+use Rattle.rules.specs.declared.Refusal.{Refusal}
+use Rattle.rules.specs.declared.Refusal.the-variants.{FewWords, HeadingKind, HeadingPrice, Length, Order, Argument, Band}
 
 -- What a call answers: the numbers that it gives, or a refusal with its number and order number.
 pub data Answer : Type 0 where

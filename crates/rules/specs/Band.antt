@@ -1,10 +1,10 @@
 -- Document 01, "Indicative price and band", and refusals 9 and 11 of its calls.
 use mathlib.Core.Bool.{Bool, not, _&&_, _||_, cond}
-use mathlib.Core.List.{List, [], _∷_}
+use mathlib.Core.List.{[], _∷_}
 use Prim.Native.Nat.{ℕ, _+_, _-_, _*_, _/_}
 use lib.Dec.{leb, ltb, eqb}
-use Rattle.rules.specs.Grid.{lastPrice, onGrid, movedInto}
 use Rattle.rules.specs.Answers.{Answer, gives, row, downwards}
+use Rattle.rules.specs.Grid.{lastPrice, onGrid, movedInto}
 
 -- n / d rounded up; n / d itself is rounded down
 abbrev pub roundedUp : ℕ → ℕ → ℕ

@@ -4,17 +4,17 @@ use mathlib.Core.List.{List, [], _∷_, _++_}
 use Prim.Native.Nat.{ℕ, zero, suc, _+_, _*_, _/_, _%_}
 use lib.Dec.{leb, ltb, eqb}
 use lib.ListN.{length}
-use Rattle.rules.specs.Lists.{listed}
-use Rattle.rules.specs.Grid.{onGrid}
-use Rattle.rules.specs.Words.{wordAt}
 use Rattle.rules.specs.Answers.{Answer, gives, Check, row, downwards}
-use Rattle.rules.specs.declared.Word.{Word}
+use Rattle.rules.specs.Grid.{onGrid}
+use Rattle.rules.specs.Lists.{listed}
+use Rattle.rules.specs.Words.{wordAt}
+use Rattle.rules.specs.declared.Heading.{Heading}
+use Rattle.rules.specs.declared.Order.{Order}
 use Rattle.rules.specs.declared.Side.{Side}
 use Rattle.rules.specs.declared.Side.the-variants.{Buy, Sell}
 use Rattle.rules.specs.declared.Terms.{Terms}
 use Rattle.rules.specs.declared.Terms.the-variants.{WithoutLimit, Limited, Stepper}
-use Rattle.rules.specs.declared.Order.{Order}
-use Rattle.rules.specs.declared.Heading.{Heading}
+use Rattle.rules.specs.declared.Word.{Word}
 
 -- ---- The heading
 
@@ -24,6 +24,7 @@ unfoldable pub headingKinds : Word → Word → Word → Word → Word → Bool
 headingKinds a b c d e =
     eqb (a .kind) 1 && eqb (b .kind) 2 && eqb (c .kind) 3 && eqb (d .kind) 4 && eqb (e .kind) 5
 
+-- The heading that the values of these five words give.
 unfoldable pub headingFrom : Word → Word → Word → Word → Word → Heading
 headingFrom a b c d e = record {
   lower = record { 0 = a .value };
@@ -33,17 +34,19 @@ headingFrom a b c d e = record {
   count = e .value;
 }
 
--- Each is a grid price; D < I < H.
+-- Each is a grid price.
 unfoldable pub pricesOnGrid : Heading → Bool
 pricesOnGrid h = onGrid (h .lower .0) && onGrid (h .upper .0) && onGrid (h .last .0) && onGrid (h .indicative .0)
 
+-- D < I < H.
 unfoldable pub bandEncloses : Heading → Bool
 bandEncloses h = ltb (h .lower .0) (h .indicative .0) && ltb (h .indicative .0) (h .upper .0)
 
--- The number of orders n, 0 to 120. The sheet has 5 + 3 × n words.
+-- The number of orders n, 0 to 120.
 abbrev pub mostOrders : ℕ
 mostOrders = 120
 
+-- The sheet has 5 + 3 × n words.
 unfoldable pub lengthFits : ℕ → ℕ → Bool
 lengthFits n words = leb n mostOrders && eqb words (5 + 3 * n)
 
@@ -87,6 +90,7 @@ termsOf disposition limit ignored =
     (Stepper (record { 0 = limit }) (record { 0 = ignored }))
     (cond (eqb limit 0) (WithoutLimit (eqb disposition 1)) (Limited (record { 0 = limit }) (eqb disposition 1)))
 
+-- The order that the values of its three words give.
 unfoldable pub orderFrom : Word → Word → Word → Order
 orderFrom a b c = record {
   side = sideOf (a .kind);

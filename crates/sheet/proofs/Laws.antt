@@ -1,39 +1,36 @@
 -- Laws of the reading, over plain values. The proofs of the functions hand their facts over to these.
 -- The reading of the orders keeps, after i of them: their places are filled, the place is the next order's first word, and
 -- no check of theirs arises. One more order keeps it, a faulty one stops the whole table, and the last one makes the sheet pass.
-use mathlib.Core.Path.{_≡_, refl, sym, ap, _∙_}
-use mathlib.Core.Bool.{Bool, not, _&&_}
-use mathlib.Core.List.{List, [], _∷_, _++_}
-use Prim.Native.Nat.{ℕ, zero, suc, _+_, _-_, _*_, _≤_, _<_}
+use mathlib.Core.Bool.{Bool}
+use mathlib.Core.List.{List, [], _++_}
+use mathlib.Core.Path.{_≡_, sym, ap, _∙_}
+use Prim.Native.Nat.{ℕ, zero, suc, _+_, _*_, _≤_, _<_}
+use native.Mathlib.Decide.{decLe}
 use native.Mathlib.Numerals.{add-one}
 use native.Mathlib.Omega.{arith}
-use native.Mathlib.Decide.{decLe}
 use lib.ListN.{length, set, replicate}
-use Rattle.rules.specs.Words.{wordAt}
-use Rattle.rules.specs.Answers.{gives, refuses, downwards, faultNumber, refusalNumber, refusalOrder}
-use Rattle.rules.specs.Sheet.{headingKinds, headingFrom, pricesOnGrid, bandEncloses, lengthFits, headingOf, orderFrom, orderAt, checksIn, ordersOf, headingChecks, orderChecks, ordersChecks, sheetChecks, checkSheet, noOrder, mostOrders}
-use Rattle.rules.specs.declared.Word.{Word}
+use Rattle.rules.specs.Answers.{gives, refuses, faultNumber, refusalNumber, refusalOrder}
+use Rattle.rules.specs.Sheet.{headingFrom, headingOf, orderFrom, orderAt, checksIn, ordersOf, headingChecks, ordersChecks, sheetChecks, checkSheet, noOrder, mostOrders}
+use Rattle.rules.proofs.Accepted.{heading-passes}
+use Rattle.rules.proofs.Downwards.{Clear, Stops, nothing-left, clear-append, stops-first, stops-after}
+use Rattle.rules.proofs.Lists.{filled, filled-none, filled-more}
+use Rattle.rules.specs.declared.Checked.the-variants.{Accepted}
+use Rattle.rules.specs.declared.Heading.{Heading}
+use Rattle.rules.specs.declared.Order.{Order}
+use Rattle.rules.specs.declared.OrderFault.{OrderFault}
 use Rattle.rules.specs.declared.Refusal.{Refusal}
 use Rattle.rules.specs.declared.Refusal.the-variants.{Order as OrderRefusal}
-use Rattle.rules.specs.declared.Checked.the-variants.{Accepted}
-use Rattle.rules.specs.declared.OrderFault.{OrderFault}
-use Rattle.rules.specs.declared.Order.{Order}
-use Rattle.rules.specs.declared.Heading.{Heading}
-use Rattle.rules.proofs.Lists.{filled, filled-none, filled-more}
-use Rattle.rules.proofs.Downwards.{Clear, Stops, nothing-left, clear-append, stops-first, stops-after}
-use Rattle.rules.proofs.Accepted.{SoundHeading, heading-passes}
 use Rattle.sheet.specs.Reading.{headingRead, placesRead, ReadsAs}
 use Rattle.sheet.specs.Steps.{frontOf, tripleAt, refusedReading, HeadingReadsAs, OrderCheckedAs, OrderReadsAs}
-use Rattle.sheet.specs.declared.Reading.{Reading}
 use Rattle.sheet.specs.declared.cursor.Cursor.{Cursor}
 use Rattle.sheet.specs.declared.heading.Front.{Front}
 use Rattle.sheet.specs.declared.heading.HeadingRead.{HeadingRead}
 use Rattle.sheet.specs.declared.heading.HeadingRead.the-variants.{Passed as PassedHeading, Refused as RefusedHeading}
-use Rattle.sheet.specs.declared.orders.Triple.{Triple}
 use Rattle.sheet.specs.declared.orders.OrderChecked.{OrderChecked}
 use Rattle.sheet.specs.declared.orders.OrderChecked.the-variants.{Passed as PassedChecks, Faulty as FaultyChecks}
 use Rattle.sheet.specs.declared.orders.OrderRead.{OrderRead}
 use Rattle.sheet.specs.declared.orders.OrderRead.the-variants.{Passed as PassedOrder, Faulty as FaultyOrder}
+use Rattle.sheet.specs.declared.orders.Triple.{Triple}
 
 -- ---- the heading
 
@@ -43,19 +40,9 @@ pub headed : (ws : List ℕ) {f : Front} {h : Heading} → f ≡ frontOf ws
 unfolding headingOf
 headed ws e made = rw e at made
 
--- what a test said of what was read, the row says of the sheet
-pub kinds-row : (ws : List ℕ) {f : Front} {t r : Bool} → f ≡ frontOf ws
-    → t ≡ not (headingKinds (f .lower) (f .upper) (f .last) (f .indicative) (f .count)) → t ≡ r
-    → not (headingKinds (wordAt ws 0) (wordAt ws 1) (wordAt ws 2) (wordAt ws 3) (wordAt ws 4)) ≡ r
-kinds-row ws e told out = sym (rw e at told) ∙ out
-
-pub prices-row : (ws : List ℕ) {h : Heading} {t r : Bool} → h ≡ headingOf ws → t ≡ not (pricesOnGrid h && bandEncloses h) → t ≡ r
-    → not (pricesOnGrid (headingOf ws) && bandEncloses (headingOf ws)) ≡ r
-prices-row ws e told out = sym (rw e at told) ∙ out
-
-pub length-row : (ws : List ℕ) {h : Heading} {t r : Bool} → h ≡ headingOf ws → t ≡ not (lengthFits (h .count) (length ws)) → t ≡ r
-    → not (lengthFits (headingOf ws .count) (length ws)) ≡ r
-length-row ws e told out = sym (rw e at told) ∙ out
+-- what a test said of what was read, it says of the sheet
+pub said-of : {A : Type 0} (wrong : A → Bool) {x y : A} {t r : Bool} → x ≡ y → t ≡ wrong x → t ≡ r → wrong y ≡ r
+said-of wrong e told out = sym (ap wrong e) ∙ sym told ∙ out
 
 -- ---- a refused sheet
 

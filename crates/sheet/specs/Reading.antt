@@ -1,12 +1,12 @@
 -- What the reading of a sheet hands on to the calls that go on from it.
-use mathlib.Core.Path.{_≡_}
 use mathlib.Core.List.{List, _++_}
+use mathlib.Core.Path.{_≡_}
 use Prim.Native.Nat.{ℕ, _-_}
 use lib.ListN.{replicate}
 use Rattle.rules.specs.Answers.{Answer, gives, refuses, checkAnswer}
 use Rattle.rules.specs.Sheet.{mostOrders, headingOf, ordersOf, checkSheet, noOrder}
-use Rattle.rules.specs.declared.Order.{Order}
 use Rattle.rules.specs.declared.Heading.{Heading}
+use Rattle.rules.specs.declared.Order.{Order}
 use Rattle.sheet.specs.declared.Reading.{Reading}
 
 -- One value where a call gives something, another where it refuses.

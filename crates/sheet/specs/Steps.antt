@@ -1,24 +1,26 @@
 -- The steps of the reading, for the promises inside this crate: what each finds, in the terms of the rules.
-use mathlib.Core.Path.{_≡_}
+use mathlib.Core.Bool.{Bool, not, _&&_}
 use mathlib.Core.List.{List}
+use mathlib.Core.Path.{_≡_}
 use Prim.Native.Nat.{ℕ, _+_}
 use lib.ListN.{replicate}
-use Rattle.rules.specs.Words.{wordAt}
 use Rattle.rules.specs.Answers.{faultNumber, refusalNumber, refusalOrder}
-use Rattle.rules.specs.Sheet.{mostOrders, headingOf, orderIn, headingChecks, orderChecks, checksIn, noOrder}
+use Rattle.rules.specs.Sheet.{headingKinds, pricesOnGrid, bandEncloses, lengthFits, mostOrders, headingOf, orderIn, headingChecks, orderChecks, checksIn, noOrder}
+use Rattle.rules.specs.Words.{wordAt}
 use Rattle.rules.proofs.Downwards.{Clear, Stops}
-use Rattle.rules.specs.declared.Refusal.{Refusal}
 use Rattle.rules.specs.declared.Checked.the-variants.{Refused as RefusedSheet}
+use Rattle.rules.specs.declared.Heading.{Heading}
+use Rattle.rules.specs.declared.Refusal.{Refusal}
 use Rattle.sheet.specs.Reading.{noHeading}
 use Rattle.sheet.specs.declared.Reading.{Reading}
 use Rattle.sheet.specs.declared.heading.Front.{Front}
 use Rattle.sheet.specs.declared.heading.HeadingRead.{HeadingRead}
 use Rattle.sheet.specs.declared.heading.HeadingRead.the-variants.{Passed as PassedHeading, Refused as RefusedHeading}
-use Rattle.sheet.specs.declared.orders.Triple.{Triple}
 use Rattle.sheet.specs.declared.orders.OrderChecked.{OrderChecked}
 use Rattle.sheet.specs.declared.orders.OrderChecked.the-variants.{Passed as PassedChecks, Faulty as FaultyChecks}
 use Rattle.sheet.specs.declared.orders.OrderRead.{OrderRead}
 use Rattle.sheet.specs.declared.orders.OrderRead.the-variants.{Passed as PassedOrder, Faulty as FaultyOrder}
+use Rattle.sheet.specs.declared.orders.Triple.{Triple}
 
 -- The reading of a refused sheet.
 abbrev pub refusedReading : Refusal → Reading
@@ -34,6 +36,16 @@ frontOf ws = record {
   count = wordAt ws 4;
   next = record { at = 5 };
 }
+
+-- What refusals 2, 3 and 4 look for, in the words and in the heading that were read.
+abbrev pub wrongKinds : Front → Bool
+wrongKinds f = not (headingKinds (f .lower) (f .upper) (f .last) (f .indicative) (f .count))
+
+abbrev pub wrongPrices : Heading → Bool
+wrongPrices h = not (pricesOnGrid h && bandEncloses h)
+
+abbrev pub wrongLength : ℕ → Heading → Bool
+wrongLength words h = not (lengthFits (h .count) words)
 
 -- A heading that passes is the sheet's, and none of its checks arises; one that is refused stops with its refusal.
 abbrev pub HeadingReadsAs : List ℕ → HeadingRead → Type 0

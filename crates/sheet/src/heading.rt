@@ -1,10 +1,9 @@
 // The heading of a sheet, words 0 to 4, and its checks, refusals 1 to 4.
 ghost use mathlib.Core.Path.{_≡_};
-ghost use mathlib.Core.Bool.{not, _&&_};
 ghost use Prim.Native.Nat.{_≤_};
 ghost use lib.ListN.{length};
-ghost use Rattle.rules.specs.Sheet.{headingKinds, headingFrom, pricesOnGrid, bandEncloses, lengthFits};
-ghost use Rattle.sheet.specs.Steps.{frontOf, HeadingReadsAs};
+ghost use Rattle.rules.specs.Sheet.{headingFrom};
+ghost use Rattle.sheet.specs.Steps.{frontOf, wrongKinds, wrongPrices, wrongLength, HeadingReadsAs};
 use crate::cursor::Cursor;
 use rules::Heading;
 use rules::Price;
@@ -55,7 +54,7 @@ fn read_front(words: &[u32]) -> Front
 
 // Refusal 2: a wrong kind in words 0 to 4.
 fn wrong_kinds(f: Front) -> bool
-    ensures { λ r. ⌜ r ≡ not (headingKinds (f .lower) (f .upper) (f .last) (f .indicative) (f .count)) ⌝ }
+    ensures { λ r. ⌜ r ≡ wrongKinds f ⌝ }
 {
     !((f.lower.kind == 1)
         & (f.upper.kind == 2)
@@ -78,7 +77,7 @@ fn heading_from(f: Front) -> Heading
 
 // Refusal 3: a price off the grid, or not D < I < H.
 fn wrong_prices(h: Heading) -> bool
-    ensures { λ r. ⌜ r ≡ not (pricesOnGrid h && bandEncloses h) ⌝ }
+    ensures { λ r. ⌜ r ≡ wrongPrices h ⌝ }
 {
     let grid = on_grid(h.lower.0)
         & on_grid(h.upper.0)
@@ -88,9 +87,10 @@ fn wrong_prices(h: Heading) -> bool
 }
 
 // Refusal 4: more than 120 orders, or a wrong length.
-fn wrong_length(count: usize, words: usize) -> bool
-    ensures { λ r. ⌜ r ≡ not (lengthFits count words) ⌝ }
+fn wrong_length(h: Heading, words: usize) -> bool
+    ensures { λ r. ⌜ r ≡ wrongLength words h ⌝ }
 {
+    let count = h.count;
     if 120 < count {
         return true;
     }
@@ -108,7 +108,7 @@ pub(crate) fn read_heading(words: &[u32]) -> HeadingRead
     let heading = heading_from(front);
     let kinds = wrong_kinds(front);
     let prices = wrong_prices(heading);
-    let length = wrong_length(heading.count, words.len());
+    let length = wrong_length(heading, words.len());
     if kinds {
         return HeadingRead::Refused(Refusal::HeadingKind);
     }

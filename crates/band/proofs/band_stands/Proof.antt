@@ -1,6 +1,6 @@
 -- `band_stands` meets its contract: its test is that of the definition, with what `on_grid` ensures.
-use Rattle.rules.specs.Band.{bandStands}
 use borrow.Author.Needs.{needs}
+use Rattle.rules.specs.Band.{bandStands}
 use Rattle.band.proofs.band_stands.Statement.{statement}
 use Rattle.band.proofs.band_stands.Tie as tie
 

@@ -1,8 +1,8 @@
 -- `indicative_price` meets its contract: the count of pieces decides which price is used, and that one is tested.
+use borrow.Author.Needs.{needs}
 use borrow.Author.Tests.{lt-ltb, le-ltb}
 use Rattle.rules.specs.Answers.{downwards}
 use Rattle.rules.specs.Band.{indicativePrice}
-use borrow.Author.Needs.{needs}
 use Rattle.band.proofs.indicative_price.Statement.{statement}
 use Rattle.band.proofs.indicative_price.Tie as tie
 

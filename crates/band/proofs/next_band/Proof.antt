@@ -1,11 +1,11 @@
 -- `next_band` meets its contract: its test is refusal 9, and the rule of the code does the rest.
-use lib.Dec.{leb}
 use mathlib.Core.Path.{sym, _∙_}
-use Rattle.rules.proofs.Grid.{both, on-grid}
-use Rattle.band.proofs.Laws.{percent-small}
+use lib.Dec.{leb}
+use borrow.Author.Needs.{needs}
 use Rattle.rules.specs.Answers.{downwards}
 use Rattle.rules.specs.Band.{nextBand}
-use borrow.Author.Needs.{needs}
+use Rattle.rules.proofs.Grid.{both, on-grid}
+use Rattle.band.proofs.Laws.{percent-small}
 use Rattle.band.proofs.next_band.Statement.{statement}
 use Rattle.band.proofs.next_band.Tie as tie
 

@@ -1,10 +1,10 @@
 -- `widened_band` meets its contract: its first test is refusal 9, its second the side.
 use mathlib.Core.Path.{sym, _∙_}
-use Rattle.rules.proofs.Grid.{both}
-use Rattle.band.proofs.Laws.{bounds-small, side-one}
+use borrow.Author.Needs.{needs}
 use Rattle.rules.specs.Answers.{downwards}
 use Rattle.rules.specs.Band.{widenedBand}
-use borrow.Author.Needs.{needs}
+use Rattle.rules.proofs.Grid.{both}
+use Rattle.band.proofs.Laws.{bounds-small, side-one}
 use Rattle.band.proofs.widened_band.Statement.{statement}
 use Rattle.band.proofs.widened_band.Tie as tie
 

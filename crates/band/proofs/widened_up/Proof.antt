@@ -1,8 +1,8 @@
 -- `widened_up` meets its contract: its test is refusal 11.
+use borrow.Author.Needs.{needs}
 use borrow.Author.Tests.{lt-ltb, le-ltb}
 use Rattle.rules.specs.Answers.{downwards}
 use Rattle.rules.specs.Band.{widenedFor, widenedUpper, widenedLower}
-use borrow.Author.Needs.{needs}
 use Rattle.band.proofs.widened_up.Statement.{statement}
 use Rattle.band.proofs.widened_up.Tie as tie
 

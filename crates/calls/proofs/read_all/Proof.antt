@@ -1,6 +1,6 @@
 -- `read_all` is safe and ends: the text keeps its length, and the turns are counted down.
-use lib.ListN.{length}
 use mathlib.Core.Path.{_≡_}
+use lib.ListN.{length}
 use Rattle.rules.proofs.Tests.{tests}
 use Rattle.calls.proofs.read_all.Statement.{statement}
 use Rattle.calls.proofs.read_all.Tie as tie

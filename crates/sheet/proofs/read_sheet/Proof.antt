@@ -1,6 +1,6 @@
 -- `read_sheet` meets its contract: a heading that passes leaves all to the orders, a refused one refuses the sheet.
-use Rattle.sheet.proofs.Laws.{refused-heading}
 use borrow.Author.Needs.{needs}
+use Rattle.sheet.proofs.Laws.{refused-heading}
 use Rattle.sheet.proofs.read_sheet.Statement.{statement}
 use Rattle.sheet.proofs.read_sheet.Tie as tie
 

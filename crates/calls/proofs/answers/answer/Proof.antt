@@ -1,6 +1,6 @@
 -- `answer` is safe and ends: the name is the line up to its first space.
-use lib.ListN.{length-take}
 use native.Mathlib.Omega.{arith}
+use lib.ListN.{length-take}
 use borrow.Author.Needs.{needs}
 use Rattle.calls.proofs.answers.answer.Statement.{statement}
 use Rattle.calls.proofs.answers.answer.Tie as tie

@@ -1,9 +1,8 @@
 -- `check_words` is safe and ends: the words stay an array of 400. The measure is the number of words left.
 use mathlib.Core.Path.{_≡_}
-use lib.ListN.{length, length-set, length-take}
-use native.Mathlib.Omega.{arith}
-use lib.ListN.{length}
 use Prim.Native.Nat.{_-_, _≤_}
+use native.Mathlib.Omega.{arith}
+use lib.ListN.{length, length-set, length-take}
 use Rattle.rules.proofs.Tests.{tests}
 use Rattle.calls.proofs.answers.check_words.Statement.{statement}
 use Rattle.calls.proofs.answers.check_words.Tie as tie

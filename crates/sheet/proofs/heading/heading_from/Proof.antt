@@ -1,7 +1,7 @@
 -- `heading_from` meets its contract: field by field, as the definition.
 use mathlib.Core.Path.{refl}
-use Rattle.rules.specs.Sheet.{headingFrom}
 use borrow.Author.Needs.{needs}
+use Rattle.rules.specs.Sheet.{headingFrom}
 use Rattle.sheet.proofs.heading.heading_from.Statement.{statement}
 use Rattle.sheet.proofs.heading.heading_from.Tie as tie
 

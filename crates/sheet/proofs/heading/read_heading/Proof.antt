@@ -1,12 +1,18 @@
 -- `read_heading` meets its contract: each test is a row of the heading's table, in the same order. The five words are those
 -- of the sheet, so the heading is the sheet's.
-use Rattle.sheet.specs.declared.heading.Front.{Front}
-use mathlib.Core.Path.{ap}
-use Rattle.sheet.proofs.Laws.{headed, kinds-row, prices-row, length-row}
-use Rattle.rules.proofs.Downwards.{here, there, passed, nothing-left}
-use Rattle.rules.specs.Sheet.{headingChecks}
-use Rattle.rules.proofs.Tests.{tests}
+use mathlib.Core.Bool.{Bool, false}
+use mathlib.Core.List.{List}
+use mathlib.Core.Path.{_≡_, ap}
+use Prim.Native.Nat.{ℕ}
+use lib.Dec.{ltb}
+use lib.ListN.{length}
 use borrow.Author.Needs.{needs}
+use Rattle.rules.specs.Sheet.{headingOf, headingChecks}
+use Rattle.rules.proofs.Downwards.{Clear, here, there, passed, nothing-left}
+use Rattle.rules.proofs.Tests.{tests}
+use Rattle.sheet.specs.Steps.{frontOf, wrongKinds, wrongPrices, wrongLength}
+use Rattle.sheet.specs.declared.heading.Front.{Front}
+use Rattle.sheet.proofs.Laws.{headed, said-of}
 use Rattle.sheet.proofs.heading.read_heading.Statement.{statement}
 use Rattle.sheet.proofs.heading.read_heading.Tie as tie
 
@@ -29,43 +35,61 @@ wrong-prices-requires c κs = search needs
 wrong-length-requires : tie.Need-wrong-length-requires
 wrong-length-requires c κs = search needs
 
+-- what was read before the first test, and the rows of the table by what the tests said
+module _ (c : tie.After-wrong-length) where
+  abbrev words : List ℕ
+  words = c .before .before .before .before .before .before .before .args .words .now
+
+  front : c .before .before .before .before .read-front .result ≡ frontOf words
+  front = c .before .before .before .before .read-front .ensures
+
+  heading : c .before .before .before .heading-from .result ≡ headingOf words
+  heading = headed words front (c .before .before .before .heading-from .ensures)
+
+  few : ltb (length words) 5 ≡ false
+  few = search tests
+
+  kinds : {r : Bool} → c .before .before .wrong-kinds .result ≡ r → wrongKinds (frontOf words) ≡ r
+  kinds out = said-of wrongKinds front (c .before .before .wrong-kinds .ensures) out
+
+  prices : {r : Bool} → c .before .wrong-prices .result ≡ r → wrongPrices (headingOf words) ≡ r
+  prices out = said-of wrongPrices heading (c .before .wrong-prices .ensures) out
+
+  lengths : {r : Bool} → c .wrong-length .result ≡ r → wrongLength (length words) (headingOf words) ≡ r
+  lengths out = said-of (wrongLength (length words)) heading (c .wrong-length .ensures) out
+
 returns-2 : tie.Need-returns-2
 unfolding headingChecks
-returns-2 c =
-    let d = c .before in
-    there (search tests) (here (kinds-row (d .before .before .before .before .before .before .before .args .words .now) (d .before .before .before .before .read-front .ensures) (d .before .before .wrong-kinds .ensures) (c .if2 .taken)))
+returns-2 c = let d = c .before in there (few d) (here (kinds d (c .if2 .taken)))
 
 returns-3 : tie.Need-returns-3
 unfolding headingChecks
 returns-3 c =
     let d = c .before .before in
-    let e = headed (d .before .before .before .before .before .before .before .args .words .now) (d .before .before .before .before .read-front .ensures) (d .before .before .before .heading-from .ensures) in
-    there (search tests)
-    (there (kinds-row (d .before .before .before .before .before .before .before .args .words .now) (d .before .before .before .before .read-front .ensures) (d .before .before .wrong-kinds .ensures) (c .before .if2 .left))
-    (here (prices-row (d .before .before .before .before .before .before .before .args .words .now) e (d .before .wrong-prices .ensures) (c .if3 .taken))))
+    there (few d) (there (kinds d (c .before .if2 .left)) (here (prices d (c .if3 .taken))))
 
 returns-4 : tie.Need-returns-4
 unfolding headingChecks
 returns-4 c =
     let d = c .before .before .before in
-    let e = headed (d .before .before .before .before .before .before .before .args .words .now) (d .before .before .before .before .read-front .ensures) (d .before .before .before .heading-from .ensures) in
-    there (search tests)
-    (there (kinds-row (d .before .before .before .before .before .before .before .args .words .now) (d .before .before .before .before .read-front .ensures) (d .before .before .wrong-kinds .ensures) (c .before .before .if2 .left))
-    (there (prices-row (d .before .before .before .before .before .before .before .args .words .now) e (d .before .wrong-prices .ensures) (c .before .if3 .left))
-    (here (length-row (d .before .before .before .before .before .before .before .args .words .now) e (d .wrong-length .ensures) (c .if4 .taken)))))
+    there (few d)
+    (there (kinds d (c .before .before .if2 .left))
+    (there (prices d (c .before .if3 .left))
+    (here (lengths d (c .if4 .taken)))))
+
+clear : (c : tie.Else4) → Clear (headingChecks (words (c .before .before .before)))
+unfolding headingChecks
+clear c =
+    let d = c .before .before .before in
+    passed (few d)
+    (passed (kinds d (c .before .before .if2 .left))
+    (passed (prices d (c .before .if3 .left))
+    (passed (lengths d (c .if4 .left)) nothing-left)))
 
 returns-5 : tie.Need-returns-5
-unfolding headingChecks
 returns-5 c =
     let d = c .before .before .before .before in
-    let e = headed (d .before .before .before .before .before .before .before .args .words .now) (d .before .before .before .before .read-front .ensures) (d .before .before .before .heading-from .ensures) in (
-      passed (search tests)
-          (passed (kinds-row (d .before .before .before .before .before .before .before .args .words .now) (d .before .before .before .before .read-front .ensures) (d .before .before .wrong-kinds .ensures) (c .before .before .before .if2 .left))
-          (passed (prices-row (d .before .before .before .before .before .before .before .args .words .now) e (d .before .wrong-prices .ensures) (c .before .before .if3 .left))
-          (passed (length-row (d .before .before .before .before .before .before .before .args .words .now) e (d .wrong-length .ensures) (c .before .if4 .left)) nothing-left))),
-      e,
-      ap (λ (f : Front). f .next .at) (d .before .before .before .before .read-front .ensures),
-    )
+    (clear (c .before), heading d, ap (λ (f : Front). f .next .at) (front d))
 
 pub read-heading-spec : {M : Type 1} → statement M
 read-heading-spec =

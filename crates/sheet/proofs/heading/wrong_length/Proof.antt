@@ -1,7 +1,7 @@
 -- `wrong_length` meets its contract, by its tests: the count is tested first, so that the product cannot overflow.
+use borrow.Author.Needs.{needs}
 use Rattle.rules.specs.Sheet.{lengthFits}
 use Rattle.rules.proofs.Tests.{tests}
-use borrow.Author.Needs.{needs}
 use Rattle.sheet.proofs.heading.wrong_length.Statement.{statement}
 use Rattle.sheet.proofs.heading.wrong_length.Tie as tie
 

@@ -1,6 +1,6 @@
 -- `wrong_prices` meets its contract: its test is that of the definitions, with what `on_grid` ensures of each price.
-use Rattle.rules.specs.Sheet.{pricesOnGrid, bandEncloses}
 use borrow.Author.Needs.{needs}
+use Rattle.rules.specs.Sheet.{pricesOnGrid, bandEncloses}
 use Rattle.sheet.proofs.heading.wrong_prices.Statement.{statement}
 use Rattle.sheet.proofs.heading.wrong_prices.Tie as tie
 

@@ -1,8 +1,10 @@
 -- `check_order` meets its contract: each test is a row of the order's table, in the same order.
-use mathlib.Core.Path.{sym, _∙_}
-use Rattle.rules.proofs.Downwards.{here, there, passed, nothing-left}
-use Rattle.rules.specs.Sheet.{orderChecks}
+use mathlib.Core.Bool.{Bool, not}
+use mathlib.Core.Path.{_≡_, sym, _∙_}
 use borrow.Author.Needs.{needs}
+use Rattle.rules.specs.Sheet.{orderKinds, dispositionIn, limitIn, termsAllowed, quantityAllowed, ignoredAllowed, orderChecks}
+use Rattle.rules.proofs.Downwards.{here, there, passed, nothing-left}
+use Rattle.sheet.specs.declared.orders.Triple.{Triple}
 use Rattle.sheet.proofs.orders.check_order.Statement.{statement}
 use Rattle.sheet.proofs.orders.check_order.Tie as tie
 
@@ -18,49 +20,60 @@ wrong-quantity-requires c κs = search needs
 wrong-ignored-requires : tie.Need-wrong-ignored-requires
 wrong-ignored-requires c κs = search needs
 
+-- the rows of the table by what the tests said
+module _ (c : tie.After-wrong-ignored) where
+  abbrev order : Triple
+  order = c .before .before .before .before .before .before .args .t
+
+  kinds : {r : Bool} → c .before .before .before .wrong-kinds .result ≡ r
+      → not (orderKinds (order .first) (order .second) (order .third)) ≡ r
+  kinds out = sym (c .before .before .before .wrong-kinds .ensures) ∙ out
+
+  terms : {r : Bool} → c .before .before .wrong-terms .result ≡ r
+      → not (termsAllowed (dispositionIn (order .first)) (limitIn (order .first))) ≡ r
+  terms out = sym (c .before .before .wrong-terms .ensures) ∙ out
+
+  quantity : {r : Bool} → c .before .wrong-quantity .result ≡ r → not (quantityAllowed (order .second .value)) ≡ r
+  quantity out = sym (c .before .wrong-quantity .ensures) ∙ out
+
+  ignored : {r : Bool} → c .wrong-ignored .result ≡ r → not (ignoredAllowed (dispositionIn (order .first)) (order .third .value)) ≡ r
+  ignored out = sym (c .wrong-ignored .ensures) ∙ out
+
 returns : tie.Need-returns
 unfolding orderChecks
-returns c =
-    λ k.
-    let d = c .before in
-    here (sym (d .before .before .before .wrong-kinds .ensures) ∙ c .if1 .taken)
+returns c k = here (kinds (c .before) (c .if1 .taken))
 
 returns-2 : tie.Need-returns-2
 unfolding orderChecks
-returns-2 c =
-    λ k.
+returns-2 c k =
     let d = c .before .before in
-    there (sym (d .before .before .before .wrong-kinds .ensures) ∙ c .before .if1 .left)
-    (here (sym (d .before .before .wrong-terms .ensures) ∙ c .if2 .taken))
+    there (kinds d (c .before .if1 .left)) (here (terms d (c .if2 .taken)))
 
 returns-3 : tie.Need-returns-3
 unfolding orderChecks
-returns-3 c =
-    λ k.
+returns-3 c k =
     let d = c .before .before .before in
-    there (sym (d .before .before .before .wrong-kinds .ensures) ∙ c .before .before .if1 .left)
-    (there (sym (d .before .before .wrong-terms .ensures) ∙ c .before .if2 .left)
-    (here (sym (d .before .wrong-quantity .ensures) ∙ c .if3 .taken)))
+    there (kinds d (c .before .before .if1 .left))
+    (there (terms d (c .before .if2 .left))
+    (here (quantity d (c .if3 .taken))))
 
 returns-4 : tie.Need-returns-4
 unfolding orderChecks
-returns-4 c =
-    λ k.
+returns-4 c k =
     let d = c .before .before .before .before in
-    there (sym (d .before .before .before .wrong-kinds .ensures) ∙ c .before .before .before .if1 .left)
-    (there (sym (d .before .before .wrong-terms .ensures) ∙ c .before .before .if2 .left)
-    (there (sym (d .before .wrong-quantity .ensures) ∙ c .before .if3 .left)
-    (here (sym (d .wrong-ignored .ensures) ∙ c .if4 .taken))))
+    there (kinds d (c .before .before .before .if1 .left))
+    (there (terms d (c .before .before .if2 .left))
+    (there (quantity d (c .before .if3 .left))
+    (here (ignored d (c .if4 .taken)))))
 
 returns-5 : tie.Need-returns-5
 unfolding orderChecks
-returns-5 c =
-    λ k.
+returns-5 c k =
     let d = c .before .before .before .before in
-    passed (sym (d .before .before .before .wrong-kinds .ensures) ∙ c .before .before .before .if1 .left)
-    (passed (sym (d .before .before .wrong-terms .ensures) ∙ c .before .before .if2 .left)
-    (passed (sym (d .before .wrong-quantity .ensures) ∙ c .before .if3 .left)
-    (passed (sym (d .wrong-ignored .ensures) ∙ c .if4 .left) nothing-left)))
+    passed (kinds d (c .before .before .before .if1 .left))
+    (passed (terms d (c .before .before .if2 .left))
+    (passed (quantity d (c .before .if3 .left))
+    (passed (ignored d (c .if4 .left)) nothing-left)))
 
 pub check-order-spec : {M : Type 1} → statement M
 check-order-spec =

@@ -1,6 +1,6 @@
 -- `order_from` meets its contract: side and terms are those of its callees.
-use Rattle.rules.specs.Sheet.{orderFrom}
 use borrow.Author.Needs.{needs}
+use Rattle.rules.specs.Sheet.{orderFrom}
 use Rattle.sheet.proofs.orders.order_from.Statement.{statement}
 use Rattle.sheet.proofs.orders.order_from.Tie as tie
 

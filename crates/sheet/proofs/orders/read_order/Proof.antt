@@ -1,6 +1,6 @@
 -- `read_order` meets its contract: what the checks said of the three words, and the order made of them.
-use Rattle.sheet.proofs.Laws.{passed-order, faulty-order}
 use borrow.Author.Needs.{needs}
+use Rattle.sheet.proofs.Laws.{passed-order, faulty-order}
 use Rattle.sheet.proofs.orders.read_order.Statement.{statement}
 use Rattle.sheet.proofs.orders.read_order.Tie as tie
 

@@ -1,9 +1,8 @@
 -- `read_orders` meets its contract. The invariant, `SoFar`: the orders read so far fill their places, the cursor stands at the
 -- next order's first word, and no check of theirs arises. The measure is the number of orders left.
-use Rattle.sheet.proofs.Laws.{SoFar, so-far-none, so-far-more, faulty-reading, accepted-reading}
 use Prim.Native.Nat.{_-_}
-use Rattle.sheet.proofs.Laws.{SoFar}
 use Rattle.rules.proofs.Tests.{tests}
+use Rattle.sheet.proofs.Laws.{SoFar, so-far-none, so-far-more, faulty-reading, accepted-reading}
 use Rattle.sheet.proofs.orders.read_orders.Statement.{statement}
 use Rattle.sheet.proofs.orders.read_orders.Tie as tie
 

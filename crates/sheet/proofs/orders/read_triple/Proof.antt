@@ -1,7 +1,7 @@
 -- `read_triple` meets its contract: each step starts where the one before it ended.
-use Rattle.sheet.proofs.Laws.{two-on, three-on}
 use native.Mathlib.Omega.{arith}
 use borrow.Author.Needs.{needs}
+use Rattle.sheet.proofs.Laws.{two-on, three-on}
 use Rattle.sheet.proofs.orders.read_triple.Statement.{statement}
 use Rattle.sheet.proofs.orders.read_triple.Tie as tie
 

@@ -1,6 +1,6 @@
 -- `wrong_terms` meets its contract: its test is that of the definition, with what `on_grid` ensures.
-use Rattle.rules.specs.Sheet.{termsAllowed}
 use borrow.Author.Needs.{needs}
+use Rattle.rules.specs.Sheet.{termsAllowed}
 use Rattle.sheet.proofs.orders.wrong_terms.Statement.{statement}
 use Rattle.sheet.proofs.orders.wrong_terms.Tie as tie
 

@@ -1,7 +1,7 @@
 -- `BandRule::for_code` meets its contract, by its test.
+use borrow.Author.Needs.{needs}
 use borrow.Author.Tests.{eq-eqb, ne-eqb}
 use Rattle.rules.specs.Band.{percentOf}
-use borrow.Author.Needs.{needs}
 use Rattle.band.proofs.rule.BandRule.for_code.Statement.{statement}
 use Rattle.band.proofs.rule.BandRule.for_code.Tie as tie
 
