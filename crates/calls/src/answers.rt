@@ -61,11 +61,11 @@ fn argument(value: u64) -> u32 {
 }
 
 // The words of a sheet, from fields of at most 32 bits.
-fn check_words(fields: &[u64; 400], count: usize) {
-    if 400 < count {
+fn check_words(fields: &[u64; 2048], count: usize) {
+    if 2048 < count {
         return;
     }
-    let mut words = [0u32; 400];
+    let mut words = [0u32; 2048];
     let mut i = 0;
     while i < count {
         words[i] = argument(fields[i]);
@@ -75,7 +75,7 @@ fn check_words(fields: &[u64; 400], count: usize) {
 }
 
 fn answer_check(text: &[u8]) {
-    let mut fields = [0u64; 400];
+    let mut fields = [0u64; 2048];
     match read_fields(text, true, &mut fields) {
         Fields::Count(count) => check_words(&fields, count),
         Fields::Unreadable => unreadable(),
@@ -83,7 +83,7 @@ fn answer_check(text: &[u8]) {
 }
 
 // The calls about bands, told apart by the number of their fields where the name is known.
-fn call_band(name: &[u8], fields: &[u64; 400], count: usize) {
+fn call_band(name: &[u8], fields: &[u64; 2048], count: usize) {
     if check::same(name, b"indicative") & (count == 5) {
         print_price(band::indicative_price(
             argument(fields[0]),
@@ -110,7 +110,7 @@ fn call_band(name: &[u8], fields: &[u64; 400], count: usize) {
 }
 
 fn answer_band(name: &[u8], text: &[u8]) {
-    let mut fields = [0u64; 400];
+    let mut fields = [0u64; 2048];
     match read_fields(text, false, &mut fields) {
         Fields::Count(count) => call_band(name, &fields, count),
         Fields::Unreadable => unreadable(),

@@ -2,8 +2,8 @@
 ghost use Prim.Native.Nat.{_≤_};
 ghost use lib.ListN.{length};
 
-// The most fields that a line may have: more than any sheet has words.
-pub(crate) const MOST: usize = 400;
+// The most fields that a line may have. A line of 4,096 bytes has fewer.
+pub(crate) const MOST: usize = 2048;
 
 pub(crate) enum Number {
     Is(u64),
@@ -95,7 +95,7 @@ pub(crate) fn field_end(text: &[u8], from: usize) -> usize
 }
 
 // Reads the fields of a text in which each stands after a space.
-pub(crate) fn read_fields(text: &[u8], hex: bool, fields: &mut [u64; 400]) -> Fields {
+pub(crate) fn read_fields(text: &[u8], hex: bool, fields: &mut [u64; 2048]) -> Fields {
     let mut count: usize = 0;
     let mut at: usize = 0;
     while at < text.len() {

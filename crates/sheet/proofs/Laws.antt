@@ -21,21 +21,21 @@ use Rattle.rules.specs.declared.OrderFault.{OrderFault}
 use Rattle.rules.specs.declared.Refusal.{Refusal}
 use Rattle.rules.specs.declared.Refusal.the-variants.{Order as OrderRefusal}
 use Rattle.sheet.specs.Reading.{headingRead, placesRead, ReadsAs}
-use Rattle.sheet.specs.Steps.{frontOf, tripleAt, refusedReading, HeadingReadsAs, OrderCheckedAs, OrderReadsAs}
+use Rattle.sheet.specs.Steps.{headingWordsOf, orderWordsAt, refusedReading, HeadingReadsAs, OrderCheckedAs, OrderReadsAs}
 use Rattle.sheet.specs.declared.cursor.Cursor.{Cursor}
-use Rattle.sheet.specs.declared.heading.Front.{Front}
+use Rattle.sheet.specs.declared.heading.HeadingWords.{HeadingWords}
 use Rattle.sheet.specs.declared.heading.HeadingRead.{HeadingRead}
 use Rattle.sheet.specs.declared.heading.HeadingRead.the-variants.{Passed as PassedHeading, Refused as RefusedHeading}
 use Rattle.sheet.specs.declared.orders.OrderChecked.{OrderChecked}
 use Rattle.sheet.specs.declared.orders.OrderChecked.the-variants.{Passed as PassedChecks, Faulty as FaultyChecks}
 use Rattle.sheet.specs.declared.orders.OrderRead.{OrderRead}
 use Rattle.sheet.specs.declared.orders.OrderRead.the-variants.{Passed as PassedOrder, Faulty as FaultyOrder}
-use Rattle.sheet.specs.declared.orders.Triple.{Triple}
+use Rattle.sheet.specs.declared.orders.OrderWords.{OrderWords}
 
 -- ---- the heading
 
 -- the heading made of the sheet's five words is the sheet's
-pub headed : (ws : List ℕ) {f : Front} {h : Heading} → f ≡ frontOf ws
+pub headed : (ws : List ℕ) {f : HeadingWords} {h : Heading} → f ≡ headingWordsOf ws
     → h ≡ headingFrom (f .lower) (f .upper) (f .last) (f .indicative) (f .count) → h ≡ headingOf ws
 unfolding headingOf
 headed ws e made = rw e at made
@@ -65,11 +65,11 @@ two-on n = omega arith
 pub three-on : (n : ℕ) → n + 2 + 1 ≡ n + 3
 three-on n = omega arith
 
-pub passed-order : (ws : List ℕ) (at : ℕ) {t : Triple} {r : OrderChecked} {o : Order} → t ≡ tripleAt ws at → OrderCheckedAs t r
+pub passed-order : (ws : List ℕ) (at : ℕ) {t : OrderWords} {r : OrderChecked} {o : Order} → t ≡ orderWordsAt ws at → OrderCheckedAs t r
     → r ≡ PassedChecks → o ≡ orderFrom (t .first) (t .second) (t .third) → OrderReadsAs ws at (PassedOrder o (t .next))
-passed-order ws at e checked p made = (rw e at (rw p at checked), rw e at made, ap (λ (t : Triple). t .next .at) e)
+passed-order ws at e checked p made = (rw e at (rw p at checked), rw e at made, ap (λ (t : OrderWords). t .next .at) e)
 
-pub faulty-order : (ws : List ℕ) (at : ℕ) {t : Triple} {r : OrderChecked} {f : OrderFault} → t ≡ tripleAt ws at → OrderCheckedAs t r
+pub faulty-order : (ws : List ℕ) (at : ℕ) {t : OrderWords} {r : OrderChecked} {f : OrderFault} → t ≡ orderWordsAt ws at → OrderCheckedAs t r
     → r ≡ FaultyChecks f → OrderReadsAs ws at (FaultyOrder f)
 faulty-order ws at e checked p = rw e at (rw p at checked)
 

@@ -13,22 +13,22 @@ use Rattle.rules.specs.declared.Heading.{Heading}
 use Rattle.rules.specs.declared.Refusal.{Refusal}
 use Rattle.sheet.specs.Reading.{noHeading}
 use Rattle.sheet.specs.declared.Reading.{Reading}
-use Rattle.sheet.specs.declared.heading.Front.{Front}
+use Rattle.sheet.specs.declared.heading.HeadingWords.{HeadingWords}
 use Rattle.sheet.specs.declared.heading.HeadingRead.{HeadingRead}
 use Rattle.sheet.specs.declared.heading.HeadingRead.the-variants.{Passed as PassedHeading, Refused as RefusedHeading}
 use Rattle.sheet.specs.declared.orders.OrderChecked.{OrderChecked}
 use Rattle.sheet.specs.declared.orders.OrderChecked.the-variants.{Passed as PassedChecks, Faulty as FaultyChecks}
 use Rattle.sheet.specs.declared.orders.OrderRead.{OrderRead}
 use Rattle.sheet.specs.declared.orders.OrderRead.the-variants.{Passed as PassedOrder, Faulty as FaultyOrder}
-use Rattle.sheet.specs.declared.orders.Triple.{Triple}
+use Rattle.sheet.specs.declared.orders.OrderWords.{OrderWords}
 
 -- The reading of a refused sheet.
 abbrev pub refusedReading : Refusal → Reading
 refusedReading r = record { checked = RefusedSheet r; heading = noHeading; orders = replicate mostOrders noOrder }
 
 -- The five words of the heading, and the place after them.
-abbrev pub frontOf : List ℕ → Front
-frontOf ws = record {
+abbrev pub headingWordsOf : List ℕ → HeadingWords
+headingWordsOf ws = record {
   lower = wordAt ws 0;
   upper = wordAt ws 1;
   last = wordAt ws 2;
@@ -38,7 +38,7 @@ frontOf ws = record {
 }
 
 -- What refusals 2, 3 and 4 look for, in the words and in the heading that were read.
-abbrev pub wrongKinds : Front → Bool
+abbrev pub wrongKinds : HeadingWords → Bool
 wrongKinds f = not (headingKinds (f .lower) (f .upper) (f .last) (f .indicative) (f .count))
 
 abbrev pub wrongPrices : Heading → Bool
@@ -53,8 +53,8 @@ HeadingReadsAs ws (PassedHeading h next) = Clear (headingChecks ws) × (h ≡ he
 HeadingReadsAs ws (RefusedHeading r) = Stops (headingChecks ws) (refusalNumber r) (refusalOrder r)
 
 -- The three words from a place on, and the place after them.
-abbrev pub tripleAt : List ℕ → ℕ → Triple
-tripleAt ws at = record {
+abbrev pub orderWordsAt : List ℕ → ℕ → OrderWords
+orderWordsAt ws at = record {
   first = wordAt ws at;
   second = wordAt ws (at + 1);
   third = wordAt ws (at + 2);
@@ -62,7 +62,7 @@ tripleAt ws at = record {
 }
 
 -- An order's checks, whatever its number: none arises, or they stop with its fault.
-abbrev pub OrderCheckedAs : Triple → OrderChecked → Type 0
+abbrev pub OrderCheckedAs : OrderWords → OrderChecked → Type 0
 OrderCheckedAs t PassedChecks = (k : ℕ) → Clear (orderChecks k (t .first) (t .second) (t .third))
 OrderCheckedAs t (FaultyChecks f) = (k : ℕ) → Stops (orderChecks k (t .first) (t .second) (t .third)) (faultNumber f) k
 

@@ -3,7 +3,7 @@ ghost use mathlib.Core.Path.{_≡_};
 ghost use Prim.Native.Nat.{_≤_};
 ghost use lib.ListN.{length};
 ghost use Rattle.rules.specs.Sheet.{headingFrom};
-ghost use Rattle.sheet.specs.Steps.{frontOf, wrongKinds, wrongPrices, wrongLength, HeadingReadsAs};
+ghost use Rattle.sheet.specs.Steps.{headingWordsOf, wrongKinds, wrongPrices, wrongLength, HeadingReadsAs};
 use crate::cursor::Cursor;
 use rules::Heading;
 use rules::Price;
@@ -12,7 +12,7 @@ use rules::Word;
 use rules::on_grid;
 
 // The five words of a heading, and the place after them.
-pub(crate) struct Front {
+pub(crate) struct HeadingWords {
     pub lower: Word,
     pub upper: Word,
     pub last: Word,
@@ -27,9 +27,9 @@ pub(crate) enum HeadingRead {
     Refused(Refusal),
 }
 
-fn read_front(words: &[u32]) -> Front
+fn read_heading_words(words: &[u32]) -> HeadingWords
     requires { ⌜ 5 ≤ length (now words) ⌝ }
-    ensures { λ r. ⌜ r ≡ frontOf (now (words .entry)) ⌝ }
+    ensures { λ r. ⌜ r ≡ headingWordsOf (now (words .entry)) ⌝ }
 {
     let lower = Cursor::start().step(words);
     let upper = lower.next.step(words);
@@ -42,7 +42,7 @@ fn read_front(words: &[u32]) -> Front
     let d = indicative.word;
     let e = count.word;
     let next = count.next;
-    Front {
+    HeadingWords {
         lower: a,
         upper: b,
         last: c,
@@ -53,7 +53,7 @@ fn read_front(words: &[u32]) -> Front
 }
 
 // Refusal 2: a wrong kind in words 0 to 4.
-fn wrong_kinds(f: Front) -> bool
+fn wrong_kinds(f: HeadingWords) -> bool
     ensures { λ r. ⌜ r ≡ wrongKinds f ⌝ }
 {
     !((f.lower.kind == 1)
@@ -63,7 +63,7 @@ fn wrong_kinds(f: Front) -> bool
         & (f.count.kind == 5))
 }
 
-fn heading_from(f: Front) -> Heading
+fn heading_from(f: HeadingWords) -> Heading
     ensures { λ r. ⌜ r ≡ headingFrom (f .lower) (f .upper) (f .last) (f .indicative) (f .count) ⌝ }
 {
     Heading {
@@ -104,9 +104,9 @@ pub(crate) fn read_heading(words: &[u32]) -> HeadingRead
     if words.len() < 5 {
         return HeadingRead::Refused(Refusal::FewWords);
     }
-    let front = read_front(words);
-    let heading = heading_from(front);
-    let kinds = wrong_kinds(front);
+    let five = read_heading_words(words);
+    let heading = heading_from(five);
+    let kinds = wrong_kinds(five);
     let prices = wrong_prices(heading);
     let length = wrong_length(heading, words.len());
     if kinds {
@@ -118,6 +118,6 @@ pub(crate) fn read_heading(words: &[u32]) -> HeadingRead
     if length {
         return HeadingRead::Refused(Refusal::Length);
     }
-    let next = front.next;
+    let next = five.next;
     HeadingRead::Passed(heading, next)
 }

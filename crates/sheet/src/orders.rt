@@ -5,7 +5,7 @@ ghost use Prim.Native.Nat.{_+_, _≤_};
 ghost use lib.ListN.{length};
 ghost use Rattle.rules.specs.Sheet.{orderKinds, termsAllowed, quantityAllowed, ignoredAllowed, sideOf, termsOf, orderFrom, noOrder};
 ghost use Rattle.sheet.specs.Reading.{ReadsAs};
-ghost use Rattle.sheet.specs.Steps.{tripleAt, OrderCheckedAs, OrderReadsAs, HeadingReadsAs, refusedReading};
+ghost use Rattle.sheet.specs.Steps.{orderWordsAt, OrderCheckedAs, OrderReadsAs, HeadingReadsAs, refusedReading};
 ghost use Rattle.sheet.specs.declared.heading.HeadingRead.the-variants.{Passed as PassedHeading};
 use crate::Reading;
 use crate::cursor::Cursor;
@@ -22,7 +22,7 @@ use rules::Word;
 use rules::on_grid;
 
 // The three words of an order, and the place after them.
-pub(crate) struct Triple {
+pub(crate) struct OrderWords {
     pub first: Word,
     pub second: Word,
     pub third: Word,
@@ -41,9 +41,9 @@ pub(crate) enum OrderRead {
     Faulty(OrderFault),
 }
 
-fn read_triple(words: &[u32], cursor: Cursor) -> Triple
+fn read_order_words(words: &[u32], cursor: Cursor) -> OrderWords
     requires { ⌜ cursor .at + 3 ≤ length (now words) ⌝ }
-    ensures { λ r. ⌜ r ≡ tripleAt (now (words .entry)) (cursor .at) ⌝ }
+    ensures { λ r. ⌜ r ≡ orderWordsAt (now (words .entry)) (cursor .at) ⌝ }
 {
     let first = cursor.step(words);
     let second = first.next.step(words);
@@ -52,7 +52,7 @@ fn read_triple(words: &[u32], cursor: Cursor) -> Triple
     let b = second.word;
     let c = third.word;
     let next = third.next;
-    Triple {
+    OrderWords {
         first: a,
         second: b,
         third: c,
@@ -61,7 +61,7 @@ fn read_triple(words: &[u32], cursor: Cursor) -> Triple
 }
 
 // Refusal 5: a wrong kind in the order's three words.
-fn wrong_kinds(t: Triple) -> bool
+fn wrong_kinds(t: OrderWords) -> bool
     ensures { λ r. ⌜ r ≡ not (orderKinds (t .first) (t .second) (t .third)) ⌝ }
 {
     !(((t.first.kind == 6) | (t.first.kind == 7)) & (t.second.kind == 8) & (t.third.kind == 9))
@@ -89,7 +89,7 @@ fn wrong_ignored(disposition: u32, ignored: u32) -> bool
 }
 
 // The checks of an order, downwards.
-fn check_order(t: Triple) -> OrderChecked
+fn check_order(t: OrderWords) -> OrderChecked
     ensures { λ r. ⌜ OrderCheckedAs t r ⌝ }
 {
     let limit = t.first.value % 0x100_0000;
@@ -139,7 +139,7 @@ fn terms_of(disposition: u32, limit: u32, ignored: u32) -> Terms
     }
 }
 
-fn order_from(t: Triple) -> Order
+fn order_from(t: OrderWords) -> Order
     ensures { λ r. ⌜ r ≡ orderFrom (t .first) (t .second) (t .third) ⌝ }
 {
     let limit = t.first.value % 0x100_0000;
@@ -158,11 +158,11 @@ fn read_order(words: &[u32], cursor: Cursor) -> OrderRead
     requires { ⌜ cursor .at + 3 ≤ length (now words) ⌝ }
     ensures { λ r. ⌜ OrderReadsAs (now (words .entry)) (cursor .at) r ⌝ }
 {
-    let triple = read_triple(words, cursor);
-    match check_order(triple) {
+    let three = read_order_words(words, cursor);
+    match check_order(three) {
         OrderChecked::Passed => {
-            let next = triple.next;
-            OrderRead::Passed(order_from(triple), next)
+            let next = three.next;
+            OrderRead::Passed(order_from(three), next)
         }
         OrderChecked::Faulty(fault) => OrderRead::Faulty(fault),
     }

@@ -1,4 +1,4 @@
--- `check_words` is safe and ends: the words stay an array of 400. The measure is the number of words left.
+-- `check_words` is safe and ends: the words stay an array of 2048. The measure is the number of words left.
 use mathlib.Core.Path.{_≡_}
 use Prim.Native.Nat.{_-_, _≤_}
 use native.Mathlib.Omega.{arith}
@@ -8,7 +8,7 @@ use Rattle.calls.proofs.answers.check_words.Statement.{statement}
 use Rattle.calls.proofs.answers.check_words.Tie as tie
 
 abbrev Inv-loop : tie.InvT-loop
-Inv-loop fields count words₀ i₀ words i = (i ≤ count) × (length words ≡ 400)
+Inv-loop fields count words₀ i₀ words i = (i ≤ count) × (length words ≡ 2048)
 
 abbrev μ-loop : tie.MeasureT-loop
 μ-loop fields count words₀ i₀ words i = count - i

@@ -10,8 +10,8 @@ use borrow.Author.Needs.{needs}
 use Rattle.rules.specs.Sheet.{headingOf, headingChecks}
 use Rattle.rules.proofs.Downwards.{Clear, here, there, passed, nothing-left}
 use Rattle.rules.proofs.Tests.{tests}
-use Rattle.sheet.specs.Steps.{frontOf, wrongKinds, wrongPrices, wrongLength}
-use Rattle.sheet.specs.declared.heading.Front.{Front}
+use Rattle.sheet.specs.Steps.{headingWordsOf, wrongKinds, wrongPrices, wrongLength}
+use Rattle.sheet.specs.declared.heading.HeadingWords.{HeadingWords}
 use Rattle.sheet.proofs.Laws.{headed, said-of}
 use Rattle.sheet.proofs.heading.read_heading.Statement.{statement}
 use Rattle.sheet.proofs.heading.read_heading.Tie as tie
@@ -20,8 +20,8 @@ returns : tie.Need-returns
 unfolding headingChecks
 returns c = here (search tests)
 
-read-front-requires : tie.Need-read-front-requires
-read-front-requires c κs = search needs
+read-heading-words-requires : tie.Need-read-heading-words-requires
+read-heading-words-requires c κs = search needs
 
 heading-from-requires : tie.Need-heading-from-requires
 heading-from-requires c κs = search needs
@@ -40,17 +40,17 @@ module _ (c : tie.After-wrong-length) where
   abbrev words : List ℕ
   words = c .before .before .before .before .before .before .before .args .words .now
 
-  front : c .before .before .before .before .read-front .result ≡ frontOf words
-  front = c .before .before .before .before .read-front .ensures
+  five : c .before .before .before .before .read-heading-words .result ≡ headingWordsOf words
+  five = c .before .before .before .before .read-heading-words .ensures
 
   heading : c .before .before .before .heading-from .result ≡ headingOf words
-  heading = headed words front (c .before .before .before .heading-from .ensures)
+  heading = headed words five (c .before .before .before .heading-from .ensures)
 
   few : ltb (length words) 5 ≡ false
   few = search tests
 
-  kinds : {r : Bool} → c .before .before .wrong-kinds .result ≡ r → wrongKinds (frontOf words) ≡ r
-  kinds out = said-of wrongKinds front (c .before .before .wrong-kinds .ensures) out
+  kinds : {r : Bool} → c .before .before .wrong-kinds .result ≡ r → wrongKinds (headingWordsOf words) ≡ r
+  kinds out = said-of wrongKinds five (c .before .before .wrong-kinds .ensures) out
 
   prices : {r : Bool} → c .before .wrong-prices .result ≡ r → wrongPrices (headingOf words) ≡ r
   prices out = said-of wrongPrices heading (c .before .wrong-prices .ensures) out
@@ -89,14 +89,14 @@ clear c =
 returns-5 : tie.Need-returns-5
 returns-5 c =
     let d = c .before .before .before .before in
-    (clear (c .before), heading d, ap (λ (f : Front). f .next .at) (front d))
+    (clear (c .before), heading d, ap (λ (f : HeadingWords). f .next .at) (five d))
 
 pub read-heading-spec : {M : Type 1} → statement M
 read-heading-spec =
     tie.close
     (tie.spec
     returns
-    read-front-requires
+    read-heading-words-requires
     heading-from-requires
     wrong-kinds-requires
     wrong-prices-requires

@@ -4,7 +4,7 @@ use mathlib.Core.Path.{_≡_, sym, _∙_}
 use borrow.Author.Needs.{needs}
 use Rattle.rules.specs.Sheet.{orderKinds, dispositionIn, limitIn, termsAllowed, quantityAllowed, ignoredAllowed, orderChecks}
 use Rattle.rules.proofs.Downwards.{here, there, passed, nothing-left}
-use Rattle.sheet.specs.declared.orders.Triple.{Triple}
+use Rattle.sheet.specs.declared.orders.OrderWords.{OrderWords}
 use Rattle.sheet.proofs.orders.check_order.Statement.{statement}
 use Rattle.sheet.proofs.orders.check_order.Tie as tie
 
@@ -22,7 +22,7 @@ wrong-ignored-requires c κs = search needs
 
 -- the rows of the table by what the tests said
 module _ (c : tie.After-wrong-ignored) where
-  abbrev order : Triple
+  abbrev order : OrderWords
   order = c .before .before .before .before .before .before .args .t
 
   kinds : {r : Bool} → c .before .before .before .wrong-kinds .result ≡ r

@@ -4,8 +4,8 @@ use Rattle.sheet.proofs.Laws.{passed-order, faulty-order}
 use Rattle.sheet.proofs.orders.read_order.Statement.{statement}
 use Rattle.sheet.proofs.orders.read_order.Tie as tie
 
-read-triple-requires : tie.Need-read-triple-requires
-read-triple-requires c κs = search needs
+read-order-words-requires : tie.Need-read-order-words-requires
+read-order-words-requires c κs = search needs
 
 check-order-requires : tie.Need-check-order-requires
 check-order-requires c κs = search needs
@@ -22,18 +22,18 @@ enum-known-fault c = search needs
 returns : tie.Need-returns
 returns c =
     passed-order (c .before .before .before .before .before .before .before .args .words .now) (c .before .before .before .before .before .before .before .args .cursor .at)
-    (c .before .before .before .before .before .read-triple .ensures) (c .before .before .before .before .check-order .ensures) (c .before .before .enum-told .given .1) (c .order-from .ensures)
+    (c .before .before .before .before .before .read-order-words .ensures) (c .before .before .before .before .check-order .ensures) (c .before .before .enum-told .given .1) (c .order-from .ensures)
 
 returns-2 : tie.Need-returns-2
 returns-2 c =
     faulty-order (c .before .before .before .before .before .before .args .words .now) (c .before .before .before .before .before .before .args .cursor .at)
-    (c .before .before .before .before .read-triple .ensures) (c .before .before .before .check-order .ensures) (c .before .fault .given .1)
+    (c .before .before .before .before .read-order-words .ensures) (c .before .before .before .check-order .ensures) (c .before .fault .given .1)
 
 pub read-order-spec : {M : Type 1} → statement M
 read-order-spec =
     tie.close
     (tie.spec
-    read-triple-requires
+    read-order-words-requires
     check-order-requires
     enum-told
     order-from-requires

@@ -1,8 +1,8 @@
--- `read_front` meets its contract: each step starts where the one before it ended.
+-- `read_heading_words` meets its contract: each step starts where the one before it ended.
 use native.Mathlib.Omega.{arith}
 use borrow.Author.Needs.{needs}
-use Rattle.sheet.proofs.heading.read_front.Statement.{statement}
-use Rattle.sheet.proofs.heading.read_front.Tie as tie
+use Rattle.sheet.proofs.heading.read_heading_words.Statement.{statement}
+use Rattle.sheet.proofs.heading.read_heading_words.Tie as tie
 
 start-requires : tie.Need-start-requires
 start-requires c κs = search needs
@@ -25,8 +25,8 @@ step-requires-5 c κs = simp (c .step4 .ensures, c .before .step3 .ensures, c .b
 returns : tie.Need-returns
 returns c = simp (c .before .before .before .before .before .before .step5 .ensures, c .before .before .before .before .before .before .before .step4 .ensures, c .before .before .before .before .before .before .before .before .step3 .ensures, c .before .before .before .before .before .before .before .before .before .step2 .ensures, c .before .before .before .before .before .before .before .before .before .before .step .ensures, c .before .before .before .before .before .before .before .before .before .before .before .start .ensures)
 
-pub read-front-spec : {M : Type 1} → statement M
-read-front-spec =
+pub read-heading-words-spec : {M : Type 1} → statement M
+read-heading-words-spec =
     tie.close
     (tie.spec
     start-requires
