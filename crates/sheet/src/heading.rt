@@ -53,44 +53,44 @@ fn read_heading_words(words: &[u32]) -> HeadingWords
 }
 
 // Refusal 2: a wrong kind in words 0 to 4.
-fn wrong_kinds(f: HeadingWords) -> bool
-    ensures { λ r. ⌜ r ≡ wrongKinds f ⌝ }
+fn wrong_kinds(five: HeadingWords) -> bool
+    ensures { λ r. ⌜ r ≡ wrongKinds five ⌝ }
 {
-    !((f.lower.kind == 1)
-        & (f.upper.kind == 2)
-        & (f.last.kind == 3)
-        & (f.indicative.kind == 4)
-        & (f.count.kind == 5))
+    !((five.lower.kind == 1)
+        & (five.upper.kind == 2)
+        & (five.last.kind == 3)
+        & (five.indicative.kind == 4)
+        & (five.count.kind == 5))
 }
 
-fn heading_from(f: HeadingWords) -> Heading
-    ensures { λ r. ⌜ r ≡ headingFrom (f .lower) (f .upper) (f .last) (f .indicative) (f .count) ⌝ }
+fn heading_from(five: HeadingWords) -> Heading
+    ensures { λ r. ⌜ r ≡ headingFrom (five .lower) (five .upper) (five .last) (five .indicative) (five .count) ⌝ }
 {
     Heading {
-        lower: Price(f.lower.value),
-        upper: Price(f.upper.value),
-        last: Price(f.last.value),
-        indicative: Price(f.indicative.value),
-        count: f.count.value as usize,
+        lower: Price(five.lower.value),
+        upper: Price(five.upper.value),
+        last: Price(five.last.value),
+        indicative: Price(five.indicative.value),
+        count: five.count.value as usize,
     }
 }
 
 // Refusal 3: a price off the grid, or not D < I < H.
-fn wrong_prices(h: Heading) -> bool
-    ensures { λ r. ⌜ r ≡ wrongPrices h ⌝ }
+fn wrong_prices(heading: Heading) -> bool
+    ensures { λ r. ⌜ r ≡ wrongPrices heading ⌝ }
 {
-    let grid = on_grid(h.lower.0)
-        & on_grid(h.upper.0)
-        & on_grid(h.last.0)
-        & on_grid(h.indicative.0);
-    !(grid & ((h.lower.0 < h.indicative.0) & (h.indicative.0 < h.upper.0)))
+    let grid = on_grid(heading.lower.0)
+        & on_grid(heading.upper.0)
+        & on_grid(heading.last.0)
+        & on_grid(heading.indicative.0);
+    !(grid & ((heading.lower.0 < heading.indicative.0) & (heading.indicative.0 < heading.upper.0)))
 }
 
 // Refusal 4: more than 120 orders, or a wrong length.
-fn wrong_length(h: Heading, words: usize) -> bool
-    ensures { λ r. ⌜ r ≡ wrongLength words h ⌝ }
+fn wrong_length(heading: Heading, words: usize) -> bool
+    ensures { λ r. ⌜ r ≡ wrongLength words heading ⌝ }
 {
-    let count = h.count;
+    let count = heading.count;
     if 120 < count {
         return true;
     }

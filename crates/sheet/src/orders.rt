@@ -61,10 +61,12 @@ fn read_order_words(words: &[u32], cursor: Cursor) -> OrderWords
 }
 
 // Refusal 5: a wrong kind in the order's three words.
-fn wrong_kinds(t: OrderWords) -> bool
-    ensures { λ r. ⌜ r ≡ not (orderKinds (t .first) (t .second) (t .third)) ⌝ }
+fn wrong_kinds(three: OrderWords) -> bool
+    ensures { λ r. ⌜ r ≡ not (orderKinds (three .first) (three .second) (three .third)) ⌝ }
 {
-    !(((t.first.kind == 6) | (t.first.kind == 7)) & (t.second.kind == 8) & (t.third.kind == 9))
+    !(((three.first.kind == 6) | (three.first.kind == 7))
+        & (three.second.kind == 8)
+        & (three.third.kind == 9))
 }
 
 // Refusal 6: disposition or limit not allowed.
@@ -89,15 +91,15 @@ fn wrong_ignored(disposition: u32, ignored: u32) -> bool
 }
 
 // The checks of an order, downwards.
-fn check_order(t: OrderWords) -> OrderChecked
-    ensures { λ r. ⌜ OrderCheckedAs t r ⌝ }
+fn check_order(three: OrderWords) -> OrderChecked
+    ensures { λ r. ⌜ OrderCheckedAs three r ⌝ }
 {
-    let limit = t.first.value % 0x100_0000;
-    let disposition = t.first.value / 0x100_0000;
-    let kinds = wrong_kinds(t);
+    let limit = three.first.value % 0x100_0000;
+    let disposition = three.first.value / 0x100_0000;
+    let kinds = wrong_kinds(three);
     let terms = wrong_terms(disposition, limit);
-    let quantity = wrong_quantity(t.second.value);
-    let ignored = wrong_ignored(disposition, t.third.value);
+    let quantity = wrong_quantity(three.second.value);
+    let ignored = wrong_ignored(disposition, three.third.value);
     if kinds {
         return OrderChecked::Faulty(OrderFault::Kind);
     }
@@ -139,17 +141,17 @@ fn terms_of(disposition: u32, limit: u32, ignored: u32) -> Terms
     }
 }
 
-fn order_from(t: OrderWords) -> Order
-    ensures { λ r. ⌜ r ≡ orderFrom (t .first) (t .second) (t .third) ⌝ }
+fn order_from(three: OrderWords) -> Order
+    ensures { λ r. ⌜ r ≡ orderFrom (three .first) (three .second) (three .third) ⌝ }
 {
-    let limit = t.first.value % 0x100_0000;
-    let disposition = t.first.value / 0x100_0000;
-    let side = side_of(t.first.kind);
-    let terms = terms_of(disposition, limit, t.third.value);
+    let limit = three.first.value % 0x100_0000;
+    let disposition = three.first.value / 0x100_0000;
+    let side = side_of(three.first.kind);
+    let terms = terms_of(disposition, limit, three.third.value);
     Order {
         side,
         terms,
-        quantity: Pieces(t.second.value),
+        quantity: Pieces(three.second.value),
     }
 }
 

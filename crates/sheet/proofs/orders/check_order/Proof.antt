@@ -23,7 +23,7 @@ wrong-ignored-requires c κs = search needs
 -- the rows of the table by what the tests said
 module _ (c : tie.After-wrong-ignored) where
   abbrev order : OrderWords
-  order = c .before .before .before .before .before .before .args .t
+  order = c .before .before .before .before .before .before .args .three
 
   kinds : {r : Bool} → c .before .before .before .wrong-kinds .result ≡ r
       → not (orderKinds (order .first) (order .second) (order .third)) ≡ r
