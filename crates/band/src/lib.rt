@@ -64,7 +64,7 @@ pub fn indicative_price(
 pub fn next_band(code: u32, indicative: u32) -> BandAnswer
     ensures { λ r. ⌜ bandAnswer r ≡ nextBand code indicative ⌝ }
 {
-    if (code <= 1) & on_grid(indicative) {
+    if on_grid(indicative) & (code <= 1) {
         return BandRule::for_code(code).next(Price(indicative));
     }
     BandAnswer::Refused(Refusal::Argument)

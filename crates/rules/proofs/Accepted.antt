@@ -11,7 +11,7 @@ use lib.ListN.{length, getD}
 use borrow.Author.Tests.{leb-true, ltb-true, eqb-true, not-false}
 use Rattle.rules.specs.Answers.{gives}
 use Rattle.rules.specs.Grid.{onGrid}
-use Rattle.rules.specs.Sheet.{headingOf, pricesOnGrid, bandEncloses, lengthFits, mostOrders, termsAllowed, quantityAllowed, ignoredAllowed, termsOf, orderFrom, orderAt, ordersOf, headingChecks, orderChecks, ordersChecks, sheetChecks, checkSheet, noOrder}
+use Rattle.rules.specs.Sheet.{headingOf, pricesOnGrid, bandEncloses, lengthFits, mostOrders, termsAllowed, quantityAllowed, ignoredAllowed, termsOf, orderFrom, orderAt, ordersOf, headingChecks, orderChecks, ordersChecks, sheetChecks, checkSheet}
 use Rattle.rules.specs.declared.Heading.{Heading}
 use Rattle.rules.specs.declared.Order.{Order}
 use Rattle.rules.specs.declared.Terms.{Terms}
@@ -44,7 +44,7 @@ pub record SoundOrder (o : Order) : Type 0 where
 pub record SoundSheet (ws : List ℕ) : Type 0 where
   pub heading : SoundHeading (headingOf ws)
   pub words : length ws ≡ 5 + 3 * headingOf ws .count
-  pub orders : (k : ℕ) → k < headingOf ws .count → SoundOrder (getD (ordersOf ws) k noOrder)
+  pub orders : (k : ℕ) (d : Order) → k < headingOf ws .count → SoundOrder (getD (ordersOf ws) k d)
 
 sound-heading : (h : Heading) → pricesOnGrid h ≡ true → bandEncloses h ≡ true → leb (h .count) mostOrders ≡ true
     → SoundHeading h
@@ -125,5 +125,5 @@ accepted-sound ws e =
     record {
       heading = h .0;
       words = h .1;
-      orders = λ k l. rw (getD-listed (orderAt ws) (headingOf ws .count) k noOrder l) (sound-orders ws (headingOf ws .count) rest k l);
+      orders = λ k d l. rw (getD-listed (orderAt ws) (headingOf ws .count) k d l) (sound-orders ws (headingOf ws .count) rest k l);
     }

@@ -55,7 +55,7 @@ percentOf code = cond (eqb code 0) 20 25
 
 -- 9: a price off the grid, unknown code.
 unfoldable pub nextBand : ℕ → ℕ → Answer
-nextBand code I = downwards (row 9 (not (leb code 1 && onGrid I)) ∷ []) (nextBandFor (percentOf code) I)
+nextBand code I = downwards (row 9 (not (onGrid I && leb code 1)) ∷ []) (nextBandFor (percentOf code) I)
 
 -- ---- Widening after waiting
 

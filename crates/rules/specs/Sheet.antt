@@ -1,5 +1,5 @@
 -- Document 01, "Sheet", and refusals 1–8 of "Where a refusal arises".
-use mathlib.Core.Bool.{Bool, false, not, _&&_, _||_, cond}
+use mathlib.Core.Bool.{Bool, not, _&&_, _||_, cond}
 use mathlib.Core.List.{List, [], _∷_, _++_}
 use Prim.Native.Nat.{ℕ, zero, suc, _+_, _*_, _/_, _%_}
 use lib.Dec.{leb, ltb, eqb}
@@ -152,7 +152,3 @@ sheetChecks ws = headingChecks ws ++ ordersChecks ws (headingOf ws .count)
 -- The call that checks a sheet.
 unfoldable pub checkSheet : List ℕ → Answer
 checkSheet ws = downwards (sheetChecks ws) (gives [])
-
--- What stands at a place that holds no order.
-abbrev pub noOrder : Order
-noOrder = record { side = Buy; terms = WithoutLimit false; quantity = record { 0 = 0 } }

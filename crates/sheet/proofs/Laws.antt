@@ -10,7 +10,7 @@ use native.Mathlib.Numerals.{add-one}
 use native.Mathlib.Omega.{arith}
 use lib.ListN.{length, set, replicate}
 use Rattle.rules.specs.Answers.{gives, refuses, faultNumber, refusalNumber, refusalOrder}
-use Rattle.rules.specs.Sheet.{headingFrom, headingOf, orderFrom, orderAt, checksIn, ordersOf, headingChecks, ordersChecks, sheetChecks, checkSheet, noOrder, mostOrders}
+use Rattle.rules.specs.Sheet.{headingFrom, headingOf, orderFrom, orderAt, checksIn, ordersOf, headingChecks, ordersChecks, sheetChecks, checkSheet, mostOrders}
 use Rattle.rules.proofs.Accepted.{heading-passes}
 use Rattle.rules.proofs.Downwards.{Clear, Stops, nothing-left, clear-append, stops-first, stops-after}
 use Rattle.rules.proofs.Lists.{filled, filled-none, filled-more}
@@ -20,12 +20,12 @@ use Rattle.rules.specs.declared.Order.{Order}
 use Rattle.rules.specs.declared.OrderFault.{OrderFault}
 use Rattle.rules.specs.declared.Refusal.{Refusal}
 use Rattle.rules.specs.declared.Refusal.the-variants.{Order as OrderRefusal}
-use Rattle.sheet.specs.Reading.{headingRead, placesRead, ReadsAs}
+use Rattle.sheet.specs.Reading.{noOrder, headingRead, placesRead, ReadsAs}
 use Rattle.sheet.specs.Steps.{headingWordsOf, orderWordsAt, refusedReading, HeadingReadsAs, OrderCheckedAs, OrderReadsAs}
 use Rattle.sheet.specs.declared.cursor.Cursor.{Cursor}
-use Rattle.sheet.specs.declared.heading.HeadingWords.{HeadingWords}
 use Rattle.sheet.specs.declared.heading.HeadingRead.{HeadingRead}
 use Rattle.sheet.specs.declared.heading.HeadingRead.the-variants.{Passed as PassedHeading, Refused as RefusedHeading}
+use Rattle.sheet.specs.declared.heading.HeadingWords.{HeadingWords}
 use Rattle.sheet.specs.declared.orders.OrderChecked.{OrderChecked}
 use Rattle.sheet.specs.declared.orders.OrderChecked.the-variants.{Passed as PassedChecks, Faulty as FaultyChecks}
 use Rattle.sheet.specs.declared.orders.OrderRead.{OrderRead}

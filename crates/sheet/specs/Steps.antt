@@ -5,17 +5,17 @@ use mathlib.Core.Path.{_≡_}
 use Prim.Native.Nat.{ℕ, _+_}
 use lib.ListN.{replicate}
 use Rattle.rules.specs.Answers.{faultNumber, refusalNumber, refusalOrder}
-use Rattle.rules.specs.Sheet.{headingKinds, pricesOnGrid, bandEncloses, lengthFits, mostOrders, headingOf, orderIn, headingChecks, orderChecks, checksIn, noOrder}
+use Rattle.rules.specs.Sheet.{headingKinds, pricesOnGrid, bandEncloses, lengthFits, mostOrders, headingOf, orderIn, headingChecks, orderChecks, checksIn}
 use Rattle.rules.specs.Words.{wordAt}
 use Rattle.rules.proofs.Downwards.{Clear, Stops}
 use Rattle.rules.specs.declared.Checked.the-variants.{Refused as RefusedSheet}
 use Rattle.rules.specs.declared.Heading.{Heading}
 use Rattle.rules.specs.declared.Refusal.{Refusal}
-use Rattle.sheet.specs.Reading.{noHeading}
+use Rattle.sheet.specs.Reading.{noOrder, noHeading}
 use Rattle.sheet.specs.declared.Reading.{Reading}
-use Rattle.sheet.specs.declared.heading.HeadingWords.{HeadingWords}
 use Rattle.sheet.specs.declared.heading.HeadingRead.{HeadingRead}
 use Rattle.sheet.specs.declared.heading.HeadingRead.the-variants.{Passed as PassedHeading, Refused as RefusedHeading}
+use Rattle.sheet.specs.declared.heading.HeadingWords.{HeadingWords}
 use Rattle.sheet.specs.declared.orders.OrderChecked.{OrderChecked}
 use Rattle.sheet.specs.declared.orders.OrderChecked.the-variants.{Passed as PassedChecks, Faulty as FaultyChecks}
 use Rattle.sheet.specs.declared.orders.OrderRead.{OrderRead}

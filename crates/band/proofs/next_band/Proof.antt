@@ -1,6 +1,5 @@
 -- `next_band` meets its contract: its test is refusal 9, and the rule of the code does the rest.
 use mathlib.Core.Path.{sym, _∙_}
-use lib.Dec.{leb}
 use borrow.Author.Needs.{needs}
 use Rattle.rules.specs.Answers.{downwards}
 use Rattle.rules.specs.Band.{nextBand}
@@ -17,7 +16,7 @@ for-code-requires c κs = search needs
 
 next-requires : tie.Need-next-requires
 next-requires c κs =
-    let grid = on-grid (c .before .before .before .args .indicative) (sym (c .before .before .on-grid .ensures) ∙ both {a = leb (c .before .before .before .args .code) 1} (c .before .if1 .taken) .1) in
+    let grid = on-grid (c .before .before .before .args .indicative) (sym (c .before .before .on-grid .ensures) ∙ both {a = c .before .before .on-grid .result} (c .before .if1 .taken) .0) in
     (percent-small (c .before .before .before .args .code) (c .for-code .ensures), grid .0, grid .1)
 
 returns : tie.Need-returns
