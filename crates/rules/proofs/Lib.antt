@@ -4,3 +4,10 @@ pub mod Grid
 pub mod Lists
 pub mod Downwards
 pub mod Accepted
+pub mod Sums
+pub mod Scan
+pub mod Ends
+pub mod Quick
+pub mod Cases
+pub mod Best
+pub mod Curves

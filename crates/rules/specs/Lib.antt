@@ -4,4 +4,11 @@ pub mod Grid
 pub mod Words
 pub mod Answers
 pub mod Sheet
+pub mod Limits
+pub mod AuctionPrice
+pub mod Fills
+pub mod Opening
 pub mod Band
+pub mod Calls
+pub mod Demand3
+pub mod Cases

@@ -54,6 +54,16 @@ lengthFits n words = leb n mostOrders && eqb words (5 + 3 * n)
 unfoldable pub headingOf : List ℕ → Heading
 headingOf ws = headingFrom (wordAt ws 0) (wordAt ws 1) (wordAt ws 2) (wordAt ws 3) (wordAt ws 4)
 
+-- Its lower band bound D, upper bound H and indicative price I.
+abbrev pub D : Heading → ℕ
+D h = h .lower .0
+
+abbrev pub H : Heading → ℕ
+H h = h .upper .0
+
+abbrev pub I : Heading → ℕ
+I h = h .indicative .0
+
 -- ---- An order
 
 -- Each order has three words. First: kind 6 (buy) or 7 (sell). Second: kind 8. Third: kind 9.

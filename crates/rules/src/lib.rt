@@ -44,6 +44,14 @@ pub struct Order {
     pub quantity: Pieces,
 }
 
+// An order as it stands in a round: its limit, entered or in force, and what remains of it.
+pub struct Standing {
+    pub side: Side,
+    pub limit: Price,
+    pub remaining: Pieces,
+    pub all_or_none: bool,
+}
+
 // The heading of a sheet: the band's bounds, the last purchase price, the indicative price and the
 // number of orders.
 pub struct Heading {

@@ -20,7 +20,8 @@ use Rattle.rules.specs.declared.Order.{Order}
 use Rattle.rules.specs.declared.OrderFault.{OrderFault}
 use Rattle.rules.specs.declared.Refusal.{Refusal}
 use Rattle.rules.specs.declared.Refusal.the-variants.{Order as OrderRefusal}
-use Rattle.sheet.specs.Reading.{noOrder, headingRead, placesRead, ReadsAs}
+use Rattle.rules.specs.Limits.{noOrder}
+use Rattle.sheet.specs.Reading.{headingRead, placesRead, ReadsAs}
 use Rattle.sheet.specs.Steps.{headingWordsOf, orderWordsAt, refusedReading, HeadingReadsAs, OrderCheckedAs, OrderReadsAs}
 use Rattle.sheet.specs.declared.cursor.Cursor.{Cursor}
 use Rattle.sheet.specs.declared.heading.HeadingRead.{HeadingRead}

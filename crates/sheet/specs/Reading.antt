@@ -1,25 +1,19 @@
 -- What the reading of a sheet hands on to the calls that go on from it.
-use mathlib.Core.Bool.{false}
 use mathlib.Core.List.{List, _++_}
 use mathlib.Core.Path.{_≡_}
 use Prim.Native.Nat.{ℕ, _-_}
 use lib.ListN.{replicate}
 use Rattle.rules.specs.Answers.{Answer, gives, refuses, checkAnswer}
+use Rattle.rules.specs.Limits.{noOrder}
 use Rattle.rules.specs.Sheet.{mostOrders, headingOf, ordersOf, checkSheet}
 use Rattle.rules.specs.declared.Heading.{Heading}
 use Rattle.rules.specs.declared.Order.{Order}
-use Rattle.rules.specs.declared.Side.the-variants.{Buy}
-use Rattle.rules.specs.declared.Terms.the-variants.{WithoutLimit}
 use Rattle.sheet.specs.declared.Reading.{Reading}
 
 -- One value where a call gives something, another where it refuses.
 abbrev pub whenGiven : {A : Type 0} → Answer → A → A → A
 whenGiven (gives vs) x y = x
 whenGiven (refuses n k) x y = y
-
--- What stands at a place that holds no order.
-abbrev pub noOrder : Order
-noOrder = record { side = Buy; terms = WithoutLimit false; quantity = record { 0 = 0 } }
 
 abbrev pub noHeading : Heading
 noHeading = record {

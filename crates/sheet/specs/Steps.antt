@@ -11,7 +11,8 @@ use Rattle.rules.proofs.Downwards.{Clear, Stops}
 use Rattle.rules.specs.declared.Checked.the-variants.{Refused as RefusedSheet}
 use Rattle.rules.specs.declared.Heading.{Heading}
 use Rattle.rules.specs.declared.Refusal.{Refusal}
-use Rattle.sheet.specs.Reading.{noOrder, noHeading}
+use Rattle.rules.specs.Limits.{noOrder}
+use Rattle.sheet.specs.Reading.{noHeading}
 use Rattle.sheet.specs.declared.Reading.{Reading}
 use Rattle.sheet.specs.declared.heading.HeadingRead.{HeadingRead}
 use Rattle.sheet.specs.declared.heading.HeadingRead.the-variants.{Passed as PassedHeading, Refused as RefusedHeading}

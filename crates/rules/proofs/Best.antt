@@ -1,0 +1,101 @@
+-- The best price with a property, for a side given as parameter: what the scan of the grid finds, and how to recognise it.
+-- A price has a place, counted from the side's worst price on; on that scale higher is better for both sides.
+use mathlib.Core.Bool.{Bool, true, false}
+use mathlib.Core.Option.{Option, none, some}
+use mathlib.Core.Path.{_≡_, refl, sym, ap, _∙_}
+use Prim.Native.Nat.{ℕ, zero, suc, _+_, _-_, _≤_, _<_, zero-le}
+use native.Mathlib.Nat.{le-antisymm}
+use native.Mathlib.Omega.{arith}
+use lib.Dec.{leb}
+use borrow.Author.Tests.{leb-true, leb-false}
+use Rattle.rules.proofs.Ends.{priceAt, best-place}
+use Rattle.rules.proofs.Grid.{OnGrid}
+use Rattle.rules.proofs.Scan.{largest-le, largest-ge, largest-passes}
+use Rattle.rules.specs.Grid.{lastPrice, nth, bestAmong}
+use Rattle.rules.specs.Lists.{largestTo}
+use Rattle.rules.specs.declared.Side.{Side}
+use Rattle.rules.specs.declared.Side.the-variants.{Buy, Sell}
+
+-- for side s the price q is better than p
+abbrev pub Better : Side → ℕ → ℕ → Type 0
+Better Buy q p = p < q
+Better Sell q p = q < p
+
+-- the price p of the grid passes the test, and no better one does
+pub record Best (s : Side) (P : ℕ → Bool) (p : ℕ) : Type 0 where
+  pub on : OnGrid p
+  pub passes : P p ≡ true
+  pub only : (q : ℕ) → OnGrid q → Better s q p → P q ≡ false
+
+-- no price of the grid passes the test
+abbrev pub NonePasses : (ℕ → Bool) → Type 0
+NonePasses P = (q : ℕ) → OnGrid q → P q ≡ false
+
+-- ---- Places
+
+abbrev place : Side → ℕ → ℕ
+place Buy p = p
+place Sell p = lastPrice + 1 - p
+
+nth-place : (s : Side) (p : ℕ) → OnGrid p → nth s (place s p) ≡ p
+nth-place Buy p on = refl
+nth-place Sell p on = omega arith
+
+place-on : (s : Side) (p : ℕ) → OnGrid p → OnGrid (place s p)
+place-on Buy p on = on
+place-on Sell p on = (omega arith, omega arith)
+
+nth-on : (s : Side) (k : ℕ) → OnGrid k → OnGrid (nth s k)
+nth-on Buy k on = on
+nth-on Sell k on = (omega arith, omega arith)
+
+further : (s : Side) (p k : ℕ) → OnGrid p → k ≤ lastPrice → place s p < k → Better s (nth s k) p
+further Buy p k on h l = l
+further Sell p k on h l = omega arith
+
+price-at : (s : Side) (k : ℕ) → 1 ≤ k → priceAt s k ≡ some (nth s k)
+price-at s zero h = absurd (omega arith)
+price-at s (suc k) h = refl
+
+-- a test that fails is not passed
+not-both : {t : Bool} → t ≡ true → t ≡ false → ⊥
+not-both e f = let z : _≡_ {A = ℕ} 0 1 = cc in omega arith
+
+module _ (s : Side) (P : ℕ → Bool) where
+  abbrev last : ℕ
+  last = largestTo (λ k. P (nth s k)) lastPrice
+
+  last-le : last ≤ lastPrice
+  last-le = largest-le (λ k. P (nth s k)) lastPrice
+
+  passing : (q : ℕ) → OnGrid q → P q ≡ true → place s q ≤ last
+  passing q on e = largest-ge (λ k. P (nth s k)) lastPrice (place s q) (place-on s q on .1) (ap P (nth-place s q on) ∙ e)
+
+  -- ---- Recognising it
+
+  pub best-is : (p : ℕ) → Best s P p → bestAmong s P lastPrice ≡ some p
+  best-is p b =
+      best-place s P lastPrice ∙ ap (priceAt s) (le-antisymm (at-most last refl) (passing p (b .on) (b .passes)))
+      ∙ price-at s (place s p) (place-on s p (b .on) .0) ∙ ap some (nth-place s p (b .on))
+    where
+      at-most : (k : ℕ) → last ≡ k → last ≤ place s p
+      at-most zero e = omega (arith, place-on s p (b .on))
+      at-most (suc k) e = compared (leb (suc k) (place s p)) refl
+        where
+          compared : (t : Bool) → leb (suc k) (place s p) ≡ t → last ≤ place s p
+          compared true t = omega (arith, leb-true (suc k) (place s p) t)
+          compared false t =
+              let on : OnGrid (suc k) = (omega arith, omega (arith, last-le)) in
+              absurd (not-both (ap (λ (j : ℕ). P (nth s j)) (sym e) ∙ largest-passes (λ k. P (nth s k)) lastPrice (omega arith))
+              (b .only (nth s (suc k)) (nth-on s (suc k) on)
+              (further s p (suc k) (b .on) (on .1) (leb-false (suc k) (place s p) t))))
+
+  pub none-is : NonePasses P → bestAmong s P lastPrice ≡ none
+  none-is fails = best-place s P lastPrice ∙ ap (priceAt s) (nowhere last refl)
+    where
+      nowhere : (k : ℕ) → last ≡ k → last ≡ 0
+      nowhere zero e = e
+      nowhere (suc k) e =
+          let on : OnGrid (suc k) = (omega arith, omega (arith, last-le)) in
+          absurd (not-both (ap (λ (j : ℕ). P (nth s j)) (sym e) ∙ largest-passes (λ k. P (nth s k)) lastPrice (omega arith))
+          (fails (nth s (suc k)) (nth-on s (suc k) on)))

@@ -1,0 +1,71 @@
+-- Every case of the table holds. What the rules answer is worked out by the limits alone; a test of two answers is computed
+-- once over the whole table, and what it tells of each case is shown once for any table.
+use mathlib.Core.Bool.{Bool, true, false, _&&_, false≢true}
+use mathlib.Core.List.{List, [], _∷_, _++_}
+use mathlib.Core.Path.{_≡_, refl, ap, _∙_}
+use Prim.Native.Nat.{ℕ}
+use lib.Dec.{eqb}
+use borrow.Author.Tests.{eqb-true}
+use Rattle.rules.proofs.Ends.{limitEnds, levelEnds}
+use Rattle.rules.proofs.Grid.{both}
+use Rattle.rules.proofs.Quick.{quickRound, quickAnswer, quick-answer}
+use Rattle.rules.specs.Answers.{Answer, gives, refuses, downwards}
+use Rattle.rules.specs.AuctionPrice.{level, uncrossed, auctionBy}
+use Rattle.rules.specs.Band.{bandStands, indicativePrice, nextUpper, nextLower, nextBandFor, percentOf, nextBand, widenedUpper, widenedLower, widenedFor, widenedBand}
+use Rattle.rules.specs.Calls.{Call, answerBy}
+use Rattle.rules.specs.Cases.{Case, AllHold, documentCases, furtherCases}
+use Rattle.rules.specs.Fills.{eligible, firstOf, total, offered, ahead, share, reaches, largestTotal, fillsOf}
+use Rattle.rules.specs.Grid.{onGrid, movedInto}
+use Rattle.rules.specs.Limits.{piecesAt, enteredLimit, entered, stepped, limitInForce, standingBy}
+use Rattle.rules.specs.Lists.{listed, sumTo, everyTo, largestTo}
+use Rattle.rules.specs.Opening.{roundAt, firstStart, after, goesOn, endingAfter, roundsFrom, roundWords, roundsWords, endingOf, resultWords, openingBy}
+use Rattle.rules.specs.Sheet.{headingKinds, headingFrom, headingOf, pricesOnGrid, bandEncloses, lengthFits, orderKinds, termsAllowed, quantityAllowed, ignoredAllowed, sideOf, termsOf, orderFrom, orderAt, ordersOf, headingChecks, orderChecks, ordersChecks, sheetChecks, checkSheet}
+
+-- a test of two answers, and what it tells
+unfoldable pub sameNumbers : List ℕ → List ℕ → Bool
+sameNumbers [] [] = true
+sameNumbers [] (y ∷ ys) = false
+sameNumbers (x ∷ xs) [] = false
+sameNumbers (x ∷ xs) (y ∷ ys) = eqb x y && sameNumbers xs ys
+
+unfoldable pub same : Answer → Answer → Bool
+same (gives vs) (gives ws) = sameNumbers vs ws
+same (gives vs) (refuses m l) = false
+same (refuses n k) (gives ws) = false
+same (refuses n k) (refuses m l) = eqb n m && eqb k l
+
+same-numbers : (xs ys : List ℕ) → sameNumbers xs ys ≡ true → xs ≡ ys
+unfolding sameNumbers
+same-numbers [] [] e = refl
+same-numbers [] (y ∷ ys) e = absurd (false≢true e)
+same-numbers (x ∷ xs) [] e = absurd (false≢true e)
+same-numbers (x ∷ xs) (y ∷ ys) e =
+    let t = both {a = eqb x y} e in
+    rw (eqb-true x y (t .0), same-numbers xs ys (t .1))
+
+same-answer : (a b : Answer) → same a b ≡ true → a ≡ b
+unfolding same
+same-answer (gives vs) (gives ws) e = ap gives (same-numbers vs ws e)
+same-answer (gives vs) (refuses m l) e = absurd (false≢true e)
+same-answer (refuses n k) (gives ws) e = absurd (false≢true e)
+same-answer (refuses n k) (refuses m l) e = let t = both {a = eqb n m} e in rw (eqb-true n m (t .0), eqb-true k l (t .1))
+
+-- the test over a whole table
+unfoldable pub allSame : List Case → Bool
+allSame [] = true
+allSame (c ∷ cs) = same (quickAnswer (c .call)) (c .document) && allSame cs
+
+pub all-same : (cs : List Case) → allSame cs ≡ true → AllHold cs
+unfolding allSame
+all-same [] e = tt
+all-same (c ∷ cs) e =
+    let t = both {a = same (quickAnswer (c .call)) (c .document)} e in
+    (quick-answer (c .call) ∙ same-answer (quickAnswer (c .call)) (c .document) (t .0), all-same cs (t .1))
+
+-- P1–P12 hold, and so do the further cases
+pub cases-hold : AllHold documentCases × AllHold furtherCases
+unfolding allSame same sameNumbers documentCases furtherCases quickAnswer quickRound limitEnds levelEnds answerBy downwards headingKinds headingFrom headingOf pricesOnGrid bandEncloses lengthFits orderKinds termsAllowed quantityAllowed ignoredAllowed sideOf termsOf orderFrom orderAt ordersOf headingChecks orderChecks ordersChecks sheetChecks checkSheet onGrid movedInto listed sumTo everyTo largestTo piecesAt enteredLimit entered stepped limitInForce standingBy level uncrossed auctionBy eligible firstOf total offered ahead share reaches largestTotal fillsOf roundAt firstStart after goesOn endingAfter roundsFrom roundWords roundsWords endingOf resultWords openingBy bandStands indicativePrice nextUpper nextLower nextBandFor percentOf nextBand widenedUpper widenedLower widenedFor widenedBand
+cases-hold = (
+  all-same documentCases refl,
+  all-same furtherCases refl,
+)

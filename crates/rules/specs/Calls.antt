@@ -1,0 +1,71 @@
+-- Document 01, "Opening": the calls on a sheet, "Indicative price and band": the other calls, and what each answers, with
+-- refusals 9 and 10.
+use mathlib.Core.Bool.{Bool, true, false, not, _&&_}
+use mathlib.Core.List.{List, [], _∷_, _++_}
+use Prim.Native.Nat.{ℕ, min}
+use lib.Dec.{ltb}
+use lib.ListN.{length, drop}
+use Rattle.rules.specs.Answers.{Answer, gives, refuses, Check, row, downwards}
+use Rattle.rules.specs.AuctionPrice.{demand, supply, level, volume}
+use Rattle.rules.specs.Band.{indicativePrice, nextBand, widenedBand}
+use Rattle.rules.specs.Grid.{onGrid}
+use Rattle.rules.specs.Limits.{filed, numbered, standing}
+use Rattle.rules.specs.Opening.{Start, Round, roundOf, firstStart, roundWords, openingBy, roundSpace, openingSpace}
+use Rattle.rules.specs.Sheet.{headingOf, ordersOf, sheetChecks, checkSheet}
+use Rattle.rules.specs.declared.Standing.{Standing}
+use Rattle.rules.specs.declared.Terms.{Terms}
+use Rattle.rules.specs.declared.Terms.the-variants.{WithoutLimit, Limited, Stepper}
+
+-- Calls on a sheet: check it; limit in force of Stepper k; demand, supply and volume at p; one first round, and the opening,
+-- with the number of words of the space lent. The three band calls.
+pub data Call : Type 0 where
+  check : List ℕ → Call
+  stepperLimit : List ℕ → ℕ → Call
+  curvesAt : List ℕ → ℕ → Call
+  firstRound : List ℕ → ℕ → Call
+  opening : List ℕ → ℕ → Call
+  indicative : ℕ → ℕ → ℕ → ℕ → ℕ → Call
+  next : ℕ → ℕ → Call
+  widen : ℕ → ℕ → ℕ → Call
+
+-- What a call on a sheet answers: the sheet's faults first, then one row of its own.
+abbrev pub onSheet : List ℕ → Check → List ℕ → Answer
+onSheet ws own vs = downwards (sheetChecks ws ++ (own ∷ [])) (gives vs)
+
+abbrev pub stepper : Terms → Bool
+stepper (WithoutLimit a) = false
+stepper (Limited l a) = false
+stepper (Stepper l q) = true
+
+-- 9: no such order, not a Stepper.
+abbrev pub isStepper : List ℕ → ℕ → Bool
+isStepper ws k = ltb k (headingOf ws .count) && stepper (filed (ordersOf ws) k .terms)
+
+-- The orders of a sheet in its first round, at their limits in force.
+unfoldable pub firstStanding : List ℕ → List Standing
+firstStanding ws = standing (headingOf ws) (ordersOf ws) (firstStart ws .remaining)
+
+-- What a call answers, from how the orders of a sheet stand in the first round, and the round of a sheet from a start.
+unfoldable pub answerBy : (List ℕ → List Standing) → (List ℕ → Start → Round) → Call → Answer
+answerBy first roundOf (check ws) = checkSheet ws
+answerBy first roundOf (stepperLimit ws k) = onSheet ws (row 9 (not (isStepper ws k))) (numbered (first ws) k .limit .0 ∷ [])
+answerBy first roundOf (curvesAt ws p) =
+    onSheet ws (row 9 (not (onGrid p)))
+    (demand (first ws) p ∷ supply (first ws) p ∷ min (demand (first ws) p) (supply (first ws) p) ∷ [])
+answerBy first roundOf (firstRound ws space) =
+    onSheet ws (row 10 (ltb space (roundSpace (headingOf ws .count)))) (roundWords (roundOf ws (firstStart ws)))
+answerBy first roundOf (opening ws space) =
+    onSheet ws (row 10 (ltb space (openingSpace (headingOf ws .count)))) (openingBy (roundOf ws) ws)
+answerBy first roundOf (indicative D H traded closing auction) = indicativePrice D H traded closing auction
+answerBy first roundOf (next code I) = nextBand code I
+answerBy first roundOf (widen D H side) = widenedBand D H side
+
+-- What the rules answer to a call.
+unfoldable pub answer : Call → Answer
+answer = answerBy firstStanding roundOf
+
+-- What the lent space holds afterwards, where a call gives words: words beyond them keep their content. A refusal writes no
+-- word.
+abbrev pub spaceAfter : Answer → List ℕ → List ℕ
+spaceAfter (gives words) space = words ++ drop (length words) space
+spaceAfter (refuses n k) space = space

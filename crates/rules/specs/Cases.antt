@@ -1,0 +1,201 @@
+-- Document 01, "Cases P1–P12", and further cases, as one table with a common statement: the rules answer what the document
+-- says. D 90, H 110, last 100, I 100, where a sheet says nothing else.
+use mathlib.Core.List.{List, [], _∷_, _++_, map}
+use mathlib.Core.Path.{_≡_}
+use Prim.Native.Nat.{ℕ, _+_, _*_}
+use lib.ListN.{length}
+use Rattle.rules.specs.Answers.{Answer, gives, refuses}
+use Rattle.rules.specs.Words.{word}
+use Rattle.rules.specs.Calls.{Call, check, stepperLimit, curvesAt, firstRound, opening, indicative, next, widen, answer}
+
+-- ---- The table's statement
+
+-- A call, and what the document says of it.
+pub record Case : Type 0 where
+  pub call : Call
+  pub document : Answer
+
+abbrev pub case : Call → Answer → Case
+case c d = record { call = c; document = d }
+
+-- The common statement of every case.
+abbrev pub Holds : Case → Type 0
+Holds c = answer (c .call) ≡ c .document
+
+abbrev pub AllHold : List Case → Type 0
+AllHold [] = Unit {0}
+AllHold (c ∷ cs) = Holds c × AllHold cs
+
+-- ---- Sheets and results in words
+
+-- The three words of an order: kind 6 (buy) or 7 (sell) with disposition and limit, quantity, ignored quantity.
+abbrev pub order : ℕ → ℕ → ℕ → ℕ → ℕ → List ℕ
+order kind disposition quantity limit ignored =
+    word kind (disposition * 0x100_0000 + limit) ∷ word 8 quantity ∷ word 9 ignored ∷ []
+
+-- Pieces at a limit.
+abbrev pub buy : ℕ → ℕ → List ℕ
+buy quantity limit = order 6 0 quantity limit 0
+
+abbrev pub sell : ℕ → ℕ → List ℕ
+sell quantity limit = order 7 0 quantity limit 0
+
+abbrev pub allOrNoneBuy : ℕ → ℕ → List ℕ
+allOrNoneBuy quantity limit = order 6 1 quantity limit 0
+
+abbrev pub allOrNoneSell : ℕ → ℕ → List ℕ
+allOrNoneSell quantity limit = order 7 1 quantity limit 0
+
+-- Pieces of a Stepper to a limit, with its ignored quantity.
+abbrev pub stepperBuy : ℕ → ℕ → ℕ → List ℕ
+stepperBuy quantity limit ignored = order 6 2 quantity limit ignored
+
+abbrev pub stepperSell : ℕ → ℕ → ℕ → List ℕ
+stepperSell quantity limit ignored = order 7 2 quantity limit ignored
+
+-- One list after the other.
+abbrev pub together : List (List ℕ) → List ℕ
+together [] = []
+together (l ∷ ls) = l ++ together ls
+
+abbrev pub sheet : List (List ℕ) → List ℕ
+sheet orders = word 1 90 ∷ word 2 110 ∷ word 3 100 ∷ word 4 100 ∷ word 5 (length orders) ∷ together orders
+
+-- The words of a round: situation, auction price, purchase price, total, fills.
+abbrev pub run : ℕ → ℕ → ℕ → ℕ → List ℕ → List ℕ
+run situation price purchase total fills =
+    word 10 situation ∷ word 11 price ∷ word 12 purchase ∷ word 13 total ∷ map (word 14) fills
+
+-- The opening of these orders has these rounds and this ending, in the space that it needs.
+abbrev pub opens : List (List ℕ) → List (List ℕ) → ℕ → Case
+opens orders rounds ending =
+    case (opening (sheet orders) ((length orders + 1) * (length orders + 4) + 1))
+    (gives (together rounds ++ (word 15 (ending * 65536 + length rounds) ∷ [])))
+
+-- The Stepper of number k stands at this price.
+abbrev pub standsIn : List (List ℕ) → ℕ → ℕ → Case
+standsIn orders k price = case (stepperLimit (sheet orders) k) (gives (price ∷ []))
+
+-- The sheet of the listing, and what its opening prints.
+abbrev pub listing : List ℕ
+listing =
+    0x1000005a
+    ∷ 0x2000006e
+    ∷ 0x30000064
+    ∷ 0x40000064
+    ∷ 0x50000002
+    ∷ 0x60000069
+    ∷ 0x8000000a
+    ∷ 0x90000000
+    ∷ 0x7000005f
+    ∷ 0x80000004
+    ∷ 0x90000000
+    ∷ []
+
+abbrev pub printed : List ℕ
+printed =
+    0xa0000000
+    ∷ 0xb0000069
+    ∷ 0xc0000069
+    ∷ 0xd0000004
+    ∷ 0xe0000004
+    ∷ 0xe0000004
+    ∷ 0xa0000002
+    ∷ 0xb0000069
+    ∷ 0xc0000000
+    ∷ 0xd0000000
+    ∷ 0xe0000000
+    ∷ 0xe0000000
+    ∷ 0xf0000002
+    ∷ []
+
+-- ---- P1–P12. Where the document leaves a quantity open it is 4, and a Stepper's is 7.
+
+unfoldable pub documentCases : List Case
+documentCases =
+    -- P1: the listing
+    case (opening listing 19) (gives printed)
+    -- P2: no orders: situation 4, price 100
+    ∷ opens [] (run 4 100 0 0 [] ∷ []) 0
+    -- P3: buys 5 at 95, 5 at 80, sell 10 at 70: auction 80, purchase 90, total 5, ending 2
+    ∷ opens (buy 5 95 ∷ buy 5 80 ∷ sell 10 70 ∷ []) (run 0 80 90 5 (5 ∷ 0 ∷ 5 ∷ []) ∷ []) 2
+    -- P4: all-or-none buy 10 at 105, sell 4 at 95: price 105, total 0, ending 1
+    ∷ opens (allOrNoneBuy 10 105 ∷ sell 4 95 ∷ []) (run 0 105 0 0 (0 ∷ 0 ∷ []) ∷ []) 1
+    -- P5: only a sell at 104: price 100
+    ∷ opens (sell 4 104 ∷ []) (run 1 100 0 0 (0 ∷ []) ∷ []) 0
+    -- P6: only a sell at 97: 97
+    ∷ opens (sell 4 97 ∷ []) (run 1 97 0 0 (0 ∷ []) ∷ []) 0
+    -- P7: buy 95, sell 105: 100
+    ∷ opens (buy 4 95 ∷ sell 4 105 ∷ []) (run 3 100 0 0 (0 ∷ 0 ∷ []) ∷ []) 0
+    -- P8: buy 4 at 105, sell 4 at 95: 100, total 4
+    ∷ opens (buy 4 105 ∷ sell 4 95 ∷ []) (run 0 100 100 4 (4 ∷ 4 ∷ []) ∷ run 4 100 0 0 (0 ∷ 0 ∷ []) ∷ []) 0
+    -- P9: buys 5 at 104, 3 at 101 and a Stepper to 108: ignoring 5 it stands at 102, ignoring 4 at 105
+    ∷ standsIn (buy 5 104 ∷ buy 3 101 ∷ stepperBuy 7 108 5 ∷ []) 2 102
+    ∷ standsIn (buy 5 104 ∷ buy 3 101 ∷ stepperBuy 7 108 4 ∷ []) 2 105
+    -- P10: a Stepper buy alone: 108 gives 90, 80 gives 80
+    ∷ standsIn (stepperBuy 7 108 0 ∷ []) 0 90
+    ∷ standsIn (stepperBuy 7 80 0 ∷ []) 0 80
+    -- P11: buys 3 at 115, then 3 at 120, sell 3 at 95: price 110, the first is filled
+    ∷ opens (buy 3 115 ∷ buy 3 120 ∷ sell 3 95 ∷ [])
+    (run 0 110 110 3 (3 ∷ 0 ∷ 3 ∷ []) ∷ run 2 110 0 0 (0 ∷ 0 ∷ 0 ∷ []) ∷ [])
+    0
+    -- P12: share bands: I 2 gives 1..3; 833,334 gives 666,668..1,000,000; 833,335 is refused
+    ∷ case (next 0 2) (gives (1 ∷ 3 ∷ []))
+    ∷ case (next 0 833334) (gives (666668 ∷ 1000000 ∷ []))
+    ∷ case (next 0 833335) (refuses 11 0)
+    -- P12: widening 110 gives 121, lower 95 gives 86; upper 909,091 gives 1,000,000, 909,092 is refused
+    ∷ case (widen 90 110 0) (gives (90 ∷ 121 ∷ []))
+    ∷ case (widen 95 110 1) (gives (86 ∷ 110 ∷ []))
+    ∷ case (widen 90 909091 0) (gives (90 ∷ 1000000 ∷ []))
+    ∷ case (widen 90 909092 0) (refuses 11 0)
+    ∷ []
+
+-- ---- Further cases, worked out by hand from the document
+
+unfoldable pub furtherCases : List Case
+furtherCases =
+    -- An error that tempts: passing over an all-or-none order that does not fit and filling those below. Of the sells 4 are
+    -- basic and 8 all-or-none, so they can sell up to 4, or 12; the buys can buy 10 or 11. The buy of 1 is not filled alone.
+    opens (allOrNoneBuy 10 105 ∷ buy 1 100 ∷ sell 4 95 ∷ allOrNoneSell 8 95 ∷ [])
+    (run 0 95 0 0 (0 ∷ 0 ∷ 0 ∷ 0 ∷ []) ∷ [])
+    1
+    -- An error that tempts: rivals taken at their stepped price. Each Stepper sees the other at its entered limit.
+    ∷ standsIn (stepperBuy 7 108 0 ∷ stepperBuy 7 106 0 ∷ []) 0 107
+    ∷ standsIn (stepperBuy 7 108 0 ∷ stepperBuy 7 106 0 ∷ []) 1 106
+    ∷ standsIn (stepperSell 7 92 6 ∷ stepperSell 7 94 0 ∷ []) 0 93
+    -- P9 and P10 mirrored
+    ∷ standsIn (sell 5 96 ∷ sell 3 99 ∷ stepperSell 7 92 5 ∷ []) 2 98
+    ∷ standsIn (sell 5 96 ∷ sell 3 99 ∷ stepperSell 7 92 4 ∷ []) 2 95
+    ∷ standsIn (stepperSell 7 92 0 ∷ []) 0 110
+    ∷ standsIn (stepperSell 7 120 0 ∷ []) 0 120
+    -- an order without limit is a rival at the bound; above it a Stepper's limit in force may lie outside the band
+    ∷ standsIn (buy 5 0 ∷ stepperBuy 7 200 4 ∷ []) 1 111
+    -- the curves of P3, at 80 and at 95
+    ∷ case (curvesAt (sheet (buy 5 95 ∷ buy 5 80 ∷ sell 10 70 ∷ [])) 80) (gives (10 ∷ 10 ∷ 10 ∷ []))
+    ∷ case (curvesAt (sheet (buy 5 95 ∷ buy 5 80 ∷ sell 10 70 ∷ [])) 95) (gives (5 ∷ 10 ∷ 5 ∷ []))
+    -- situations 1–4 look only inside D..H: a sell alone at 80 counts from 90 on, a buy alone at 80 not at all
+    ∷ opens (sell 4 80 ∷ []) (run 1 90 0 0 (0 ∷ []) ∷ []) 0
+    ∷ opens (buy 4 80 ∷ []) (run 4 100 0 0 (0 ∷ []) ∷ []) 0
+    -- the listing's first round alone, and its space one word short
+    ∷ case (firstRound listing 6)
+    (gives (0xa0000000 ∷ 0xb0000069 ∷ 0xc0000069 ∷ 0xd0000004 ∷ 0xe0000004 ∷ 0xe0000004 ∷ []))
+    ∷ case (firstRound listing 5) (refuses 10 0)
+    ∷ case (opening listing 18) (refuses 10 0)
+    -- arguments: not a Stepper, no such order, a price off the grid
+    ∷ case (stepperLimit listing 0) (refuses 9 0)
+    ∷ case (stepperLimit (sheet (stepperBuy 7 108 0 ∷ [])) 1) (refuses 9 0)
+    ∷ case (curvesAt listing 0) (refuses 9 0)
+    ∷ case (curvesAt listing 1000001) (refuses 9 0)
+    -- the listing's sheet is accepted; its first four words alone are too few; I may not be D; 121 orders are too many
+    ∷ case (check listing) (gives [])
+    ∷ case (check (0x1000005a ∷ 0x2000006e ∷ 0x30000064 ∷ 0x40000064 ∷ [])) (refuses 1 0)
+    ∷ case (check (0x1000005a ∷ 0x2000006e ∷ 0x30000064 ∷ 0x4000005a ∷ 0x50000000 ∷ [])) (refuses 3 0)
+    ∷ case (check (0x1000005a ∷ 0x2000006e ∷ 0x30000064 ∷ 0x40000064 ∷ 0x50000079 ∷ [])) (refuses 4 0)
+    -- a Stepper without limit comes before its quantity of 0 and its ignored quantity of 1,000,001
+    ∷ case (check (sheet (stepperBuy 0 0 1000001 ∷ []))) (refuses 6 0)
+    -- the indicative price: the closing purchase price as it is; the last auction price moved to the nearer bound
+    ∷ case (indicative 90 110 1 200 0) (gives (200 ∷ []))
+    ∷ case (indicative 90 110 0 0 80) (gives (90 ∷ []))
+    ∷ case (indicative 90 110 0 0 130) (gives (110 ∷ []))
+    ∷ case (indicative 90 90 1 100 100) (refuses 9 0)
+    ∷ []

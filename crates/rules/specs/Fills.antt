@@ -1,0 +1,137 @@
+-- Document 01, "Fills": who is eligible, the priority, F1–F4 for any list of fills, and the fills. The orders os stand at
+-- their limits in force, and a is the auction of the round.
+use mathlib.Core.Bool.{Bool, true, false, not, _&&_, _||_, Bool·beq, cond}
+use mathlib.Core.List.{List}
+use mathlib.Core.Logic.{_⊎_, _≢_}
+use mathlib.Core.Path.{_≡_}
+use Prim.Native.Nat.{ℕ, _-_, max, min, _≤_, _<_}
+use lib.Dec.{leb, ltb, eqb}
+use lib.ListN.{length, getD}
+use Rattle.rules.specs.AuctionPrice.{Auction}
+use Rattle.rules.specs.Grid.{movedInto}
+use Rattle.rules.specs.Limits.{sameSide, allows, numbered}
+use Rattle.rules.specs.Lists.{listed, sumTo, everyTo, largestTo}
+use Rattle.rules.specs.Sheet.{D, H}
+use Rattle.rules.specs.declared.Heading.{Heading}
+use Rattle.rules.specs.declared.Side.{Side}
+use Rattle.rules.specs.declared.Side.the-variants.{Buy, Sell}
+use Rattle.rules.specs.declared.Standing.{Standing}
+
+-- ---- Eligible orders and their priority
+
+-- In situation 0 the potential purchase price is the auction price, or the nearer bound if that lies outside the band.
+abbrev pub potentialPurchase : Heading → Auction → ℕ
+potentialPurchase h a = movedInto (D h) (H h) (a .price)
+
+-- Buys with limit in force at or above it, and sells at or below it, are eligible. In situations 1–4 no order is eligible.
+unfoldable pub eligible : Heading → Auction → Standing → Bool
+eligible h a o = eqb (a .situation) 0 && allows (o .side) (o .limit .0) (potentialPurchase h a)
+
+-- Priority by limit in force: buys at or above H equal; sells at or below D equal.
+abbrev pub priorityLimit : Heading → Side → ℕ → ℕ
+priorityLimit h Buy limit = min limit (H h)
+priorityLimit h Sell limit = max limit (D h)
+
+-- Higher buy limit first, lower sell limit first.
+abbrev pub firstBy : Side → ℕ → ℕ → Bool
+firstBy Buy l m = ltb m l
+firstBy Sell l m = ltb l m
+
+-- Then basic and Stepper before all-or-none; then filing order.
+abbrev pub filedFirst : Bool → Bool → ℕ → ℕ → Bool
+filedFirst a b i j = not a && b || Bool·beq a b && ltb i j
+
+-- An order a of number i is ranked before an order b of number j on its side.
+unfoldable pub firstOf : Heading → Standing → Standing → ℕ → ℕ → Bool
+firstOf h a b i j =
+    sameSide (a .side) (b .side)
+    && (firstBy (a .side) (priorityLimit h (a .side) (a .limit .0)) (priorityLimit h (b .side) (b .limit .0))
+    || eqb (priorityLimit h (a .side) (a .limit .0)) (priorityLimit h (b .side) (b .limit .0))
+    && filedFirst (a .«all_or_none») (b .«all_or_none») i j)
+
+abbrev pub rankedBefore : Heading → List Standing → ℕ → ℕ → Bool
+rankedBefore h os i j = firstOf h (numbered os i) (numbered os j) i j
+
+-- ---- F1–F4, for any list of fills
+
+-- A list of fills has for each order a whole number from 0, its pieces in the round.
+abbrev pub fillOf : List ℕ → ℕ → ℕ
+fillOf fills k = getD fills k 0
+
+-- A side's total is the sum over its orders; the list's total, which the result reports, is that of the buys.
+unfoldable pub total : Side → List Standing → List ℕ → ℕ
+total s os fills = sumTo (λ k. cond (sameSide s (numbered os k .side)) (fillOf fills k) 0) (length os)
+
+pub record Lawful (h : Heading) (a : Auction) (os : List Standing) (fills : List ℕ) : Type 0 where
+  -- F1: only eligible orders are filled,
+  pub F1 : (k : ℕ) → k < length os → 0 < fillOf fills k → eligible h a (numbered os k) ≡ true
+  -- none beyond its remainder.
+  pub F1-within : (k : ℕ) → k < length os → fillOf fills k ≤ numbered os k .remaining .0
+  -- F2: an eligible order ranked on its side below one not filled completely gets nothing. An order is filled completely if
+  -- its fill is all its remainder.
+  pub F2 : (i k : ℕ) → i < length os → k < length os → eligible h a (numbered os k) ≡ true → rankedBefore h os i k ≡ true
+      → fillOf fills i ≢ numbered os i .remaining .0 → fillOf fills k ≡ 0
+  -- F3: an all-or-none order gets all its remainder or nothing.
+  pub F3 : (k : ℕ) → k < length os → numbered os k .«all_or_none» ≡ true
+      → (fillOf fills k ≡ numbered os k .remaining .0) ⊎ (fillOf fills k ≡ 0)
+  -- F4: both sides have equal totals.
+  pub F4 : total Buy os fills ≡ total Sell os fills
+
+-- The fills meet F1–F4 with the largest total: every other list of fills that meets them has a smaller one.
+pub record Largest (h : Heading) (a : Auction) (os : List Standing) (fills : List ℕ) : Type 0 where
+  pub each : length fills ≡ length os
+  pub lawful : Lawful h a os fills
+  pub largest : (others : List ℕ) → length others ≡ length os → Lawful h a os others → others ≢ fills
+      → total Buy os others < total Buy os fills
+
+-- ---- The fills, as a function
+
+-- By F1 and F2 a side hands its total out by priority: there is one way to do it. What F3 leaves of its totals are those that
+-- it can lawfully reach.
+
+-- The pieces of the eligible orders of side s.
+unfoldable pub offered : Heading → Auction → List Standing → Side → ℕ
+offered h a os s =
+    sumTo (λ k. cond (sameSide s (numbered os k .side) && eligible h a (numbered os k)) (numbered os k .remaining .0) 0)
+    (length os)
+
+-- The pieces of the eligible orders ranked before order k on its side.
+unfoldable pub ahead : Heading → Auction → List Standing → ℕ → ℕ
+ahead h a os k =
+    sumTo (λ j. cond (eligible h a (numbered os j) && rankedBefore h os j k) (numbered os j .remaining .0) 0) (length os)
+
+-- What order k gets of its side's total: what is left after those ranked before it, at most its remainder.
+unfoldable pub share : Heading → Auction → List Standing → ℕ → ℕ → ℕ
+share h a os sum k =
+    cond (eligible h a (numbered os k)) (min (numbered os k .remaining .0) (sum - ahead h a os k)) 0
+
+-- Of that total order k, if it is all-or-none, gets all its remainder or nothing.
+abbrev pub unsplit : Heading → Auction → List Standing → ℕ → ℕ → Bool
+unsplit h a os sum k =
+    not (numbered os k .«all_or_none»)
+    || (eqb (share h a os sum k) (numbered os k .remaining .0) || eqb (share h a os sum k) 0)
+
+-- Side s can lawfully reach a total: it has the pieces, and no all-or-none order of it is split.
+unfoldable pub reaches : Heading → Auction → List Standing → Side → ℕ → Bool
+reaches h a os s sum =
+    leb sum (offered h a os s)
+    && everyTo (λ k. not (sameSide s (numbered os k .side)) || unsplit h a os sum k) (length os)
+
+-- The largest total that both sides can lawfully reach.
+unfoldable pub largestTotal : Heading → Auction → List Standing → ℕ
+largestTotal h a os =
+    largestTo (λ sum. reaches h a os Buy sum && reaches h a os Sell sum) (min (offered h a os Buy) (offered h a os Sell))
+
+unfoldable pub fillsOf : Heading → Auction → List Standing → List ℕ
+fillsOf h a os = listed (share h a os (largestTotal h a os)) (length os)
+
+-- ---- The purchase price
+
+-- The purchase price is the potential one if the total is at least 1, else 0.
+abbrev pub purchasePrice : Heading → Auction → ℕ → ℕ
+purchasePrice h a sum = cond (leb 1 sum) (potentialPurchase h a) 0
+
+-- An order that gets pieces trades at the purchase price. It trades past its limit if that price is above the limit of a buy
+-- or below the limit of a sell.
+abbrev pub pastLimit : Side → ℕ → ℕ → Bool
+pastLimit s limit purchase = not (allows s limit purchase)

@@ -1,0 +1,126 @@
+-- Document 01, "Limits in force": the orders as they stand in a round, and the limit of a Stepper.
+use mathlib.Core.Bool.{Bool, true, false, not, _&&_, cond}
+use mathlib.Core.List.{List}
+use mathlib.Core.Option.{Option, none, some}
+use Prim.Native.Nat.{ℕ, _+_, _-_, max, min}
+use lib.Dec.{leb, ltb, eqb}
+use lib.ListN.{length, getD}
+use Rattle.rules.specs.Grid.{Scan, overGrid}
+use Rattle.rules.specs.Lists.{listed, sumTo}
+use Rattle.rules.specs.Sheet.{D, H}
+use Rattle.rules.specs.declared.Heading.{Heading}
+use Rattle.rules.specs.declared.Order.{Order}
+use Rattle.rules.specs.declared.Side.{Side}
+use Rattle.rules.specs.declared.Side.the-variants.{Buy, Sell}
+use Rattle.rules.specs.declared.Standing.{Standing}
+use Rattle.rules.specs.declared.Terms.{Terms}
+use Rattle.rules.specs.declared.Terms.the-variants.{WithoutLimit, Limited, Stepper}
+
+-- ---- The orders of a round
+
+abbrev pub sameSide : Side → Side → Bool
+sameSide Buy Buy = true
+sameSide Buy Sell = false
+sameSide Sell Buy = false
+sameSide Sell Sell = true
+
+-- All-or-none belongs to orders without limit and to limited ones.
+abbrev pub allOrNone : Terms → Bool
+allOrNone (WithoutLimit a) = a
+allOrNone (Limited l a) = a
+allOrNone (Stepper l q) = false
+
+-- Remaining is the quantity less earlier fills. An order as it stands in a round, at a limit and with what remains of it.
+-- With nothing remaining it adds nothing to any sum, gets no fill and counts as filled completely: it counts nowhere.
+abbrev pub stands : Order → ℕ → ℕ → Standing
+stands o limit remaining = record {
+  side = o .side;
+  limit = record { 0 = limit };
+  remaining = record { 0 = remaining };
+  «all_or_none» = allOrNone (o .terms);
+}
+
+-- What stands at a place that holds no order: an order of nothing.
+abbrev pub noOrder : Order
+noOrder = record { side = Buy; terms = WithoutLimit false; quantity = record { 0 = 0 } }
+
+-- The order of number k.
+abbrev pub filed : List Order → ℕ → Order
+filed orders k = getD orders k noOrder
+
+abbrev pub numbered : List Standing → ℕ → Standing
+numbered os k = getD os k (stands noOrder 0 0)
+
+-- A limit at or above the price for a buy, at or below it for a sell.
+abbrev pub allows : Side → ℕ → ℕ → Bool
+allows Buy limit p = leb p limit
+allows Sell limit p = leb limit p
+
+-- The order is of side s and its limit allows p.
+abbrev pub standsAt : Side → ℕ → Standing → Bool
+standsAt s p o = sameSide s (o .side) && allows s (o .limit .0) p
+
+-- The remaining pieces at price p of those orders of side s whose number passes a test.
+unfoldable pub piecesAt : (ℕ → Bool) → Side → List Standing → ℕ → ℕ
+piecesAt counts s os p =
+    sumTo (λ j. cond (counts j && standsAt s p (numbered os j)) (numbered os j .remaining .0) 0) (length os)
+
+-- ---- The entered limit
+
+-- The entered limit of a buy without limit is H, of a sell D.
+abbrev pub withoutLimit : Heading → Side → ℕ
+withoutLimit h Buy = H h
+withoutLimit h Sell = D h
+
+unfoldable pub enteredLimit : Heading → Side → Terms → ℕ
+enteredLimit h s (WithoutLimit a) = withoutLimit h s
+enteredLimit h s (Limited l a) = l .0
+enteredLimit h s (Stepper l q) = l .0
+
+-- The orders at their entered limits, with what remains of each.
+unfoldable pub entered : Heading → List Order → List ℕ → List Standing
+entered h orders remaining =
+    listed
+    (λ k. stands (filed orders k) (enteredLimit h (filed orders k .side) (filed orders k .terms)) (getD remaining k 0))
+    (length orders)
+
+-- ---- The limit in force
+
+-- The remaining pieces of the *other* buys with entered limit at or above the price; other Steppers enter by entered limit.
+-- A sell mirrors this: sells at or below it.
+abbrev pub rivalPieces : List Standing → ℕ → Side → ℕ → ℕ
+rivalPieces os k s p = piecesAt (λ j. not (eqb j k)) s os p
+
+-- For a buy, the best rival price is the highest price at which these pieces exceed the ignored quantity. For a sell, the
+-- lowest.
+abbrev pub bestRival : Scan ℕ → Side → ℕ → Option ℕ
+bestRival rivals s ignored = rivals .best s (λ pieces. ltb ignored pieces)
+
+-- Its limit in force is the smaller of the entered limit and max(D, best rival + 1). With no rival price it is the smaller of
+-- entered limit and D. A sell mirrors this: max(entered limit, min(H, best rival − 1)), or max(entered limit, H).
+unfoldable pub stepped : Heading → Side → ℕ → Option ℕ → ℕ
+stepped h Buy limit (some rival) = min limit (max (D h) (rival + 1))
+stepped h Buy limit none = min limit (D h)
+stepped h Sell limit (some rival) = max limit (min (H h) (rival - 1))
+stepped h Sell limit none = max limit (H h)
+
+-- For all others the limit in force is the entered limit.
+unfoldable pub limitInForce : Heading → Side → Terms → Scan ℕ → ℕ
+limitInForce h s (WithoutLimit a) rivals = enteredLimit h s (WithoutLimit a)
+limitInForce h s (Limited l a) rivals = enteredLimit h s (Limited l a)
+limitInForce h s (Stepper l q) rivals = stepped h s (enteredLimit h s (Stepper l q)) (bestRival rivals s (q .0))
+
+-- The orders at their limits in force, where rivals k tells the prices of order k by the pieces of its rivals.
+unfoldable pub standingBy : (ℕ → Scan ℕ) → Heading → List Order → List ℕ → List Standing
+standingBy rivals h orders remaining =
+    listed
+    (λ k.
+    stands (filed orders k) (limitInForce h (filed orders k .side) (filed orders k .terms) (rivals k)) (getD remaining k 0))
+    (length orders)
+
+-- A Stepper's limit in force is worked out afresh in each round, from what remains then, over the whole grid.
+unfoldable pub standing : Heading → List Order → List ℕ → List Standing
+standing h orders remaining =
+    standingBy
+    (λ k. overGrid (rivalPieces (entered h orders remaining) k (filed orders k .side)))
+    h orders remaining
