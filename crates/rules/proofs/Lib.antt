@@ -9,5 +9,3 @@ pub mod Scan
 pub mod Ends
 pub mod Quick
 pub mod Cases
-pub mod Best
-pub mod Curves

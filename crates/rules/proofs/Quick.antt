@@ -9,7 +9,7 @@ use Rattle.rules.specs.Answers.{Answer}
 use Rattle.rules.specs.AuctionPrice.{Auction, level, auctionBy, auction}
 use Rattle.rules.specs.Calls.{Call, firstStanding, answerBy, answer}
 use Rattle.rules.specs.Grid.{Scan}
-use Rattle.rules.specs.Limits.{filed, entered, rivalPieces, standingBy, standing}
+use Rattle.rules.specs.Limits.{entered, rivalPieces, standingBy, standing}
 use Rattle.rules.specs.Opening.{Start, Round, roundAt, roundOf, firstStart}
 use Rattle.rules.specs.Sheet.{headingOf, ordersOf}
 use Rattle.rules.specs.declared.Heading.{Heading}
@@ -17,19 +17,19 @@ use Rattle.rules.specs.declared.Order.{Order}
 use Rattle.rules.specs.declared.Standing.{Standing}
 
 abbrev pub quickRivals : Heading → List Order → List ℕ → ℕ → Scan ℕ
-quickRivals h orders remaining k =
-    overEnds (limitEnds (entered h orders remaining)) (rivalPieces (entered h orders remaining) k (filed orders k .side))
+quickRivals h orders remaining k = overEnds (limitEnds (entered h orders remaining)) (rivalPieces h orders remaining k)
 
 abbrev pub quickStanding : Heading → List Order → List ℕ → List Standing
 quickStanding h orders remaining = standingBy (quickRivals h orders remaining) h orders remaining
 
-pub quick-standing : (h : Heading) (orders : List Order) (remaining : List ℕ) → standing h orders remaining ≡ quickStanding h orders remaining
+pub quick-standing : (h : Heading) (orders : List Order) (remaining : List ℕ)
+    → standing h orders remaining ≡ quickStanding h orders remaining
 unfolding standing
 quick-standing h orders remaining =
     ap (λ (rivals : ℕ → Scan ℕ). standingBy rivals h orders remaining)
     (fun-ext (λ k.
-    scan-at-ends (limitEnds (entered h orders remaining)) (rivalPieces (entered h orders remaining) k (filed orders k .side))
-    (pieces-step _ (filed orders k .side) (entered h orders remaining))))
+    scan-at-ends (limitEnds (entered h orders remaining)) (rivalPieces h orders remaining k)
+    (pieces-step _ _ (entered h orders remaining))))
 
 abbrev pub quickAuction : Heading → ℕ → List Standing → Auction
 quickAuction h last os = auctionBy (overEnds (levelEnds h os) (level h os)) h last

@@ -66,20 +66,7 @@ abbrev pub found : Option ℕ → Bool
 found (some p) = true
 found none = false
 
--- Situations 1–4, from the highest price in D..H with demand and the lowest with supply.
--- 1, no demand there, some supply: min(lowest price with supply, I).
--- 2, no supply, some demand: max(highest price with demand, I).
--- 3, both: the price nearest the last purchase price from the highest with demand to the lowest with supply.
--- 4, neither: the last purchase price, even if outside the band.
-unfoldable pub uncrossed : Heading → ℕ → Option ℕ → Option ℕ → Auction
-uncrossed h last none (some supplied) = record { situation = 1; price = min supplied (I h) }
-uncrossed h last (some demanded) none = record { situation = 2; price = max demanded (I h) }
-uncrossed h last (some demanded) (some supplied) = record {
-  situation = 3;
-  price = nearest (some demanded) (some supplied) last;
-}
-uncrossed h last none none = record { situation = 4; price = last }
-
+-- Of the prices of a round, by their levels. The auction of a round, below, has the prices of the whole grid.
 module _ (prices : Scan Level) where
   -- The highest, or the lowest, price whose level passes a test.
   abbrev pub highest : (Level → Bool) → Option ℕ
@@ -114,15 +101,33 @@ module _ (prices : Scan Level) where
   abbrev pub r : Option ℕ
   r = orElse (lowest (λ v. potential v && ltb (v .demand) (v .supply))) b
 
-  -- Situation 0, greatest volume above zero: the auction price is the price in l..r nearest the last purchase price.
-  -- Otherwise the potential prices are D..H, and highest and lowest are taken within D..H.
-  unfoldable pub auctionBy : Heading → ℕ → Auction
-  auctionBy h last =
-      cond (ltb 0 greatestVolume)
-      (record { situation = 0; price = nearest l r last })
-      (uncrossed h last
-      (highest (λ v. v .within && ltb 0 (v .demand)))
-      (lowest (λ v. v .within && ltb 0 (v .supply))))
+  -- Situation 0: the auction price is the price in l..r nearest the last purchase price.
+  abbrev pub crossed : ℕ → Auction
+  crossed last = record { situation = 0; price = nearest l r last }
+
+-- Otherwise, from the highest price with demand and the lowest with supply, taken within D..H:
+-- 1, no demand there, some supply: min(lowest price with supply, I).
+-- 2, no supply, some demand: max(highest price with demand, I).
+-- 3, both: the price nearest the last purchase price from the highest with demand to the lowest with supply.
+-- 4, neither: the last purchase price, even if outside the band.
+unfoldable pub uncrossed : Heading → ℕ → Option ℕ → Option ℕ → Auction
+uncrossed h last none (some supplied) = record { situation = 1; price = min supplied (I h) }
+uncrossed h last (some demanded) none = record { situation = 2; price = max demanded (I h) }
+uncrossed h last (some demanded) (some supplied) = record {
+  situation = 3;
+  price = nearest (some demanded) (some supplied) last;
+}
+uncrossed h last none none = record { situation = 4; price = last }
+
+-- Situation 0, greatest volume above zero. Otherwise the potential prices are D..H, and highest and lowest are taken within
+-- D..H.
+unfoldable pub auctionBy : Scan Level → Heading → ℕ → Auction
+auctionBy prices h last =
+    cond (ltb 0 (greatestVolume prices))
+    (crossed prices last)
+    (uncrossed h last
+    (highest prices (λ v. v .within && ltb 0 (v .demand)))
+    (lowest prices (λ v. v .within && ltb 0 (v .supply))))
 
 -- The auction of a round, over the whole grid.
 unfoldable pub auction : Heading → ℕ → List Standing → Auction

@@ -170,6 +170,22 @@ furtherCases =
     ∷ standsIn (stepperSell 7 120 0 ∷ []) 0 120
     -- an order without limit is a rival at the bound; above it a Stepper's limit in force may lie outside the band
     ∷ standsIn (buy 5 0 ∷ stepperBuy 7 200 4 ∷ []) 1 111
+    -- a Stepper's limit in force is worked out afresh: with its rival filled it stands at D
+    ∷ opens (buy 3 104 ∷ stepperBuy 5 103 0 ∷ sell 3 95 ∷ [])
+    (run 0 103 103 3 (3 ∷ 0 ∷ 3 ∷ []) ∷ run 2 100 0 0 (0 ∷ 0 ∷ 0 ∷ []) ∷ [])
+    0
+    -- the purchase price 105 becomes the last purchase price
+    ∷ opens (buy 4 105 ∷ sell 4 105 ∷ []) (run 0 105 105 4 (4 ∷ 4 ∷ []) ∷ run 4 105 0 0 (0 ∷ 0 ∷ []) ∷ []) 0
+    -- basic before all-or-none at the same limit, though filed later
+    ∷ opens (allOrNoneBuy 4 105 ∷ buy 4 105 ∷ sell 4 105 ∷ [])
+    (run 0 105 105 4 (0 ∷ 4 ∷ 4 ∷ []) ∷ run 2 105 0 0 (0 ∷ 0 ∷ 0 ∷ []) ∷ [])
+    0
+    -- P3 and P11 mirrored; an auction price outside the band ends the opening also where nothing trades
+    ∷ opens (sell 5 105 ∷ sell 5 120 ∷ buy 10 130 ∷ []) (run 0 120 110 5 (5 ∷ 0 ∷ 5 ∷ []) ∷ []) 2
+    ∷ opens (sell 3 85 ∷ sell 3 80 ∷ buy 3 105 ∷ [])
+    (run 0 90 90 3 (3 ∷ 0 ∷ 3 ∷ []) ∷ run 1 90 0 0 (0 ∷ 0 ∷ 0 ∷ []) ∷ [])
+    0
+    ∷ opens (buy 5 80 ∷ sell 5 70 ∷ []) (run 0 80 0 0 (0 ∷ 0 ∷ []) ∷ []) 2
     -- the curves of P3, at 80 and at 95
     ∷ case (curvesAt (sheet (buy 5 95 ∷ buy 5 80 ∷ sell 10 70 ∷ [])) 80) (gives (10 ∷ 10 ∷ 10 ∷ []))
     ∷ case (curvesAt (sheet (buy 5 95 ∷ buy 5 80 ∷ sell 10 70 ∷ [])) 95) (gives (5 ∷ 10 ∷ 5 ∷ []))

@@ -64,7 +64,7 @@ total s os fills = sumTo (λ k. cond (sameSide s (numbered os k .side)) (fillOf 
 
 pub record Lawful (h : Heading) (a : Auction) (os : List Standing) (fills : List ℕ) : Type 0 where
   -- F1: only eligible orders are filled,
-  pub F1 : (k : ℕ) → k < length os → 0 < fillOf fills k → eligible h a (numbered os k) ≡ true
+  pub F1-eligible : (k : ℕ) → k < length os → 0 < fillOf fills k → eligible h a (numbered os k) ≡ true
   -- none beyond its remainder.
   pub F1-within : (k : ℕ) → k < length os → fillOf fills k ≤ numbered os k .remaining .0
   -- F2: an eligible order ranked on its side below one not filled completely gets nothing. An order is filled completely if

@@ -86,13 +86,17 @@ entered h orders remaining =
 
 -- ---- The limit in force
 
--- The remaining pieces of the *other* buys with entered limit at or above the price; other Steppers enter by entered limit.
--- A sell mirrors this: sells at or below it.
-abbrev pub rivalPieces : List Standing → ℕ → Side → ℕ → ℕ
-rivalPieces os k s p = piecesAt (λ j. not (eqb j k)) s os p
+-- Order j is another than order k.
+abbrev pub others : ℕ → ℕ → Bool
+others k j = not (eqb j k)
 
--- For a buy, the best rival price is the highest price at which these pieces exceed the ignored quantity. For a sell, the
--- lowest.
+-- The remaining pieces of the *other* buys than order k with entered limit at or above the price. Other Steppers enter by
+-- entered limit. A sell mirrors this: sells at or below it.
+abbrev pub rivalPieces : Heading → List Order → List ℕ → ℕ → ℕ → ℕ
+rivalPieces h orders remaining k p = piecesAt (others k) (filed orders k .side) (entered h orders remaining) p
+
+-- For a buy, the best rival price is the highest price at which these pieces exceed the ignored quantity. A sell mirrors this:
+-- lowest price.
 abbrev pub bestRival : Scan ℕ → Side → ℕ → Option ℕ
 bestRival rivals s ignored = rivals .best s (λ pieces. ltb ignored pieces)
 
@@ -120,7 +124,4 @@ standingBy rivals h orders remaining =
 
 -- A Stepper's limit in force is worked out afresh in each round, from what remains then, over the whole grid.
 unfoldable pub standing : Heading → List Order → List ℕ → List Standing
-standing h orders remaining =
-    standingBy
-    (λ k. overGrid (rivalPieces (entered h orders remaining) k (filed orders k .side)))
-    h orders remaining
+standing h orders remaining = standingBy (λ k. overGrid (rivalPieces h orders remaining k)) h orders remaining

@@ -1,0 +1,3 @@
+-- Laws that follow from the rules.
+pub mod Best
+pub mod Curves

@@ -1,0 +1,1 @@
+-- Laws say nothing that a reader has to believe: no definition stands here.

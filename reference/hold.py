@@ -1,0 +1,188 @@
+#!/usr/bin/env python3
+"""Holds the definitions of crates/rules against the reference implementation.
+
+    reference/hold.py [COUNT] [SEED]
+
+Random calls are made and answered by the reference implementation: COUNT whole openings, and a third as many of each other
+call. A scratch crate outside the project then states, for each, that the rules answer the same, and the checker proves it. An
+answer that differs leaves the scratch crate unproved.
+"""
+import os
+import re
+import shutil
+import subprocess
+import sys
+import tempfile
+from collections import Counter
+
+PROJECT = os.path.dirname(os.path.dirname(os.path.abspath(__file__)))
+CALLS_A_FILE = 10
+# What the rules answer is computed by the checker: beyond some twenty orders that takes too many steps.
+MOST_WORDS = 5 + 3 * 20
+
+
+def reference(*words, text=None):
+    """What the reference implementation prints."""
+    program = os.path.join(PROJECT, "reference", "target", "release", "reference")
+    return subprocess.run([program, *words], input=text, capture_output=True, text=True, check=True).stdout.splitlines()
+
+
+def imports_and_names():
+    """What the proof of the table brings in, as another crate names it, and the definitions that it unfolds."""
+    with open(os.path.join(PROJECT, "crates", "rules", "proofs", "Cases.antt")) as file:
+        proof = file.read()
+    own = {"Rattle.rules.specs.": "Rattle.rules.specs.", "Rattle.rules.proofs.": "Rattle.rules.proofs."}
+    lines = [line for line in proof.splitlines() if line.startswith("use Rattle·") and ".Cases." not in line]
+    for ours, theirs in own.items():
+        lines = [line.replace(ours, theirs) for line in lines]
+    names = re.search(r"^unfolding allSame same sameNumbers documentCases furtherCases (.*)$", proof, re.M).group(1)
+    return lines, names
+
+
+def words(texts):
+    """Hexadecimal words as a list of the rules."""
+    return "".join(f"0x{text} ∷ " for text in texts) + "[]"
+
+
+def numbers(texts):
+    return "".join(f"{text} ∷ " for text in texts) + "[]"
+
+
+# Each call of the protocol, by the name it has in the rules. Of those on a sheet most take a number first, the rules last.
+ON_A_SHEET = {"stepper": "stepperLimit", "curves": "curvesAt", "round": "firstRound", "opening": "opening"}
+ANSWERED_IN_WORDS = ("round", "opening")
+
+
+def call(line):
+    name, *parts = line.split()
+    if name == "check":
+        return f"check ({words(parts)})"
+    if name in ON_A_SHEET:
+        return f"{ON_A_SHEET[name]} ({words(parts[1:])}) {parts[0]}"
+    return " ".join([name, *parts])
+
+
+def document(line, answer):
+    said = answer.split()
+    if said[0] == "refused":
+        return f"refuses {said[1]} {said[2]}"
+    if said[0] == "accepted":
+        return "gives []"
+    spelled = words if line.split()[0] in ANSWERED_IN_WORDS else numbers
+    return f"gives ({spelled(said)})"
+
+
+def vectors(rows):
+    """A file that states and proves some rows, each by itself."""
+    lines, names = imports_and_names()
+    text = [
+        "use mathlib.Core.List.{List, [], _∷_}",
+        "use mathlib.Core.Path.{refl}",
+        *lines,
+        "use Rattle.rules.proofs.Cases.{sameNumbers, same, allSame, all-same}",
+        "use Rattle.rules.specs.Cases.{Case, case, AllHold}",
+        "use Rattle.rules.specs.Calls.{check, stepperLimit, curvesAt, firstRound, opening, indicative, next, widen}",
+    ]
+    for number, row in enumerate(rows):
+        text += [
+            "",
+            f"abbrev pub row{number} : List Case",
+            f"row{number} = {row} ∷ []",
+            "",
+            f"pub agree{number} : AllHold row{number}",
+            f"unfolding allSame same sameNumbers {names}",
+            f"agree{number} = all-same row{number} refl",
+        ]
+    return "\n".join(text) + "\n"
+
+
+def scratch_crate(folder, rows):
+    """The rules, and a crate beside them that holds the rows."""
+    shutil.copytree(os.path.join(PROJECT, "crates", "rules"), os.path.join(folder, "crates", "rules"),
+                    ignore=shutil.ignore_patterns("must-fail"))
+    crate = os.path.join(folder, "crates", "vectors")
+    files = {os.path.join(folder, "crates.txt"): "rules:\nvectors: rules\n",
+             os.path.join(crate, "src", "lib.rt"): "// Nothing runs here: the proofs hold the answers against the rules.\n",
+             os.path.join(crate, "specs", "Lib.antt"): "-- nothing\n"}
+    chunks = [rows[at:at + CALLS_A_FILE] for at in range(0, len(rows), CALLS_A_FILE)]
+    for number, chunk in enumerate(chunks):
+        files[os.path.join(crate, "proofs", f"Vectors{number}.antt")] = vectors(chunk)
+    files[os.path.join(crate, "proofs", "Lib.antt")] = "".join(f"pub mod Vectors{n}\n" for n in range(len(chunks)))
+    for path, text in files.items():
+        os.makedirs(os.path.dirname(path), exist_ok=True)
+        with open(path, "w") as file:
+            file.write(text)
+
+
+def coverage(lines, answers):
+    """What the sheets and their openings had, counted."""
+    seen = Counter()
+    for line, answer in zip(lines, answers):
+        seen[f"calls: {line.split()[0]}"] += 1
+        if answer.startswith("refused"):
+            seen[f"calls refused with {answer.split()[1]:>2}"] += 1
+        elif line.startswith("opening"):
+            seen.update(orders_of([int(word, 16) for word in line.split()[2:]]))
+            seen.update(rounds_of([int(word, 16) for word in answer.split()]))
+    return seen
+
+
+def orders_of(sheet):
+    """Of the sheet of an opening: what its orders have."""
+    orders = [sheet[at] for at in range(5, len(sheet), 3)]
+    limits = [order & 0xFFFFFF for order in orders]
+    lower, upper = sheet[0] & 0xFFFFFFF, sheet[1] & 0xFFFFFFF
+    kinds = Counter((order >> 28, order >> 24 & 15) for order in orders)
+    has = {
+        "with all-or-none orders": any(kind[1] == 1 for kind in kinds),
+        "with Steppers": any(kind[1] == 2 for kind in kinds),
+        "with Steppers on both sides": (6, 2) in kinds and (7, 2) in kinds,
+        "with several Steppers on a side": kinds[6, 2] > 1 or kinds[7, 2] > 1,
+        "with orders without limit": 0 in limits,
+        "with equal limits on a side": len({(o >> 28, o & 0xFFFFFF) for o in orders}) < len(orders),
+        "with limits outside the band": any(limit and not lower <= limit <= upper for limit in limits),
+        "with a bound or limit at an end of the grid": lower == 1 or upper == 1000000 or 1 in limits or 1000000 in limits,
+    }
+    return [f"openings {what}" for what, so in has.items() if so]
+
+
+def rounds_of(result):
+    """Of the result of an opening: its ending, its number of rounds and their situations."""
+    rounds = result[-1] & 0xFFFF
+    said = [f"openings ending {result[-1] >> 16 & 15}", f"openings of {min(rounds, 4)}{'+' * (rounds > 3)} rounds"]
+    return said + [f"rounds of situation {word & 15}" for word in result if word >> 28 == 10]
+
+
+def random_lines(count, seed):
+    """Whole openings of small sheets, a third as many first rounds of others, and as many of each other call."""
+    some = max(int(count) // 3, 1)
+    lines = reference("sheets", "small", count, seed)
+    for line in reference("sheets", "small", str(some), seed + "1"):
+        _, _, *sheet = line.split()
+        lines.append(" ".join(["round", str(4 + (len(sheet) - 5) // 3), *sheet]))
+    for kind in ("check", "stepper", "curves", "band"):
+        made = reference("sheets", kind, str(8 * some), seed)
+        lines += [line for line in made if len(line.split()) <= MOST_WORDS + 2][:some]
+    return lines
+
+
+def main():
+    count, seed = (sys.argv[1:] + ["300", "1"][len(sys.argv) - 1:])[:2]
+    subprocess.run(["cargo", "build", "--release", "--quiet"], cwd=os.path.join(PROJECT, "reference"), check=True)
+    lines = random_lines(count, seed)
+    answers = reference("calls", text="\n".join(lines) + "\n")
+    assert len(lines) == len(answers)
+    with tempfile.TemporaryDirectory() as folder:
+        scratch_crate(folder, [f"case ({call(line)}) ({document(line, answer)})" for line, answer in zip(lines, answers)])
+        checked = subprocess.run(["rt", "check", "vectors"], cwd=folder, capture_output=True, text=True)
+        said = checked.stdout + checked.stderr
+    for what, number in sorted(coverage(lines, answers).items()):
+        print(f"{number:6} {what}")
+    if checked.returncode:
+        sys.exit("DIFFERENCE, or the checker gave up:\n" + "\n".join(
+            line for line in said.splitlines() if "error" in line)[:4000])
+    print(f"{len(lines)} calls, {count} of them openings: no difference")
+
+
+if __name__ == "__main__":
+    main()

@@ -1,0 +1,71 @@
+//! The result words of a round and of an opening, and how they are printed.
+
+use crate::refusal::{Refusal, SPACE};
+use crate::sheet::{word, Pieces, Price};
+
+/// What a round gives. A purchase price of 0 in the words is none here.
+#[derive(Clone, Debug, PartialEq, Eq)]
+pub struct Round {
+    pub situation: u32,
+    pub auction_price: Price,
+    pub purchase_price: Option<Price>,
+    pub total: Pieces,
+    pub fills: Vec<Pieces>,
+}
+
+/// What an opening gives.
+#[derive(Clone, Debug, PartialEq, Eq)]
+pub struct Opening {
+    pub rounds: Vec<Round>,
+    pub ending: u32,
+}
+
+impl Round {
+    /// "Per round the result has 4 + n words: kind 10 situation, 11 auction price,
+    /// 12 purchase price, 13 total, then n of kind 14, the fills by order number."
+    pub fn words(&self) -> Vec<u32> {
+        let purchase = self.purchase_price.map_or(0, |price| price.0);
+        let mut words = vec![
+            word(10, self.situation),
+            word(11, self.auction_price.0),
+            word(12, purchase),
+            word(13, self.total.0 as u32),
+        ];
+        words.extend(self.fills.iter().map(|fill| word(14, fill.0 as u32)));
+        words
+    }
+}
+
+impl Opening {
+    /// "A last word, kind 15, is ending × 65,536 + rounds, the count of rounds run."
+    pub fn words(&self) -> Vec<u32> {
+        let rounds = self.rounds.len() as u32;
+        let mut words: Vec<u32> = self.rounds.iter().flat_map(Round::words).collect();
+        words.push(word(15, self.ending * 65_536 + rounds));
+        words
+    }
+}
+
+/// "One first round (space 4 + n)."
+pub fn space_of_round(orders: usize) -> u64 {
+    4 + orders as u64
+}
+
+/// "The space needs (n + 1) × (n + 4) + 1 words, whichever number is used."
+pub fn space_of_opening(orders: usize) -> u64 {
+    let n = orders as u64;
+    (n + 1) * (n + 4) + 1
+}
+
+pub fn check_space(lent: u64, needed: u64) -> Result<(), Refusal> {
+    if lent < needed {
+        return Err(SPACE);
+    }
+    Ok(())
+}
+
+/// Words as 8 lower-case hexadecimal digits each.
+pub fn hexadecimal(words: &[u32], between: &str) -> String {
+    let digits: Vec<String> = words.iter().map(|word| format!("{word:08x}")).collect();
+    digits.join(between)
+}

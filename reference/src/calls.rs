@@ -1,0 +1,152 @@
+//! The calls, one a line, and the opening program.
+
+use crate::answer::{check_space, hexadecimal, space_of_opening, space_of_round};
+use crate::band::{indicative_price, next_band, widening};
+use crate::fast::opening::{curves, first_round, limit_of_stepper, opening};
+use crate::refusal::{Refusal, INPUT};
+use crate::sheet::{read, Grid, Price, HEADING_WORDS, MOST_ORDERS, ORDER_WORDS};
+use std::io::{BufRead, Write};
+
+/// "Bytes not a multiple of 4, or above 1,460" are refused.
+const MOST_BYTES: usize = 4 * (HEADING_WORDS + ORDER_WORDS * MOST_ORDERS);
+
+const GRID: Grid = Grid::DOCUMENT;
+
+/// An answer to a call, or its refusal.
+type Answer = Result<String, Refusal>;
+
+/// "The opening program reads a sheet from standard input, high byte first, and prints
+/// each result word as 8 lower-case hexadecimal digits a line, or `refused`, number,
+/// order number, with single spaces."
+pub fn opening_program(bytes: &[u8]) -> String {
+    match opening_of_bytes(bytes) {
+        Ok(words) => hexadecimal(&words, "\n") + "\n",
+        Err(refusal) => refusal.line() + "\n",
+    }
+}
+
+fn opening_of_bytes(bytes: &[u8]) -> Result<Vec<u32>, Refusal> {
+    if !bytes.len().is_multiple_of(4) || bytes.len() > MOST_BYTES {
+        return Err(INPUT);
+    }
+    let four = |bytes: &[u8]| u32::from_be_bytes([bytes[0], bytes[1], bytes[2], bytes[3]]);
+    let words: Vec<u32> = bytes.chunks(4).map(four).collect();
+    let sheet = read(&words, GRID)?;
+    Ok(opening(&sheet, GRID).words())
+}
+
+/// Answers every line of the input. Remarks are passed on, empty lines skipped.
+pub fn answer_lines(input: impl BufRead, mut output: impl Write) -> std::io::Result<()> {
+    for line in input.split(b'\n') {
+        let line = line?;
+        if line.is_empty() {
+            continue;
+        }
+        if line[0] == b'#' {
+            output.write_all(&line)?;
+            output.write_all(b"\n")?;
+            continue;
+        }
+        let text = String::from_utf8_lossy(&line);
+        writeln!(output, "{}", answer_line(&text))?;
+    }
+    output.flush()
+}
+
+/// One call's answer in one line.
+pub fn answer_line(line: &str) -> String {
+    let parts: Vec<&str> = line.split(' ').collect();
+    match answer(parts[0], &parts[1..]) {
+        Some(Ok(text)) => text,
+        Some(Err(refusal)) => refusal.line(),
+        None => "unreadable".to_string(),
+    }
+}
+
+/// None if the line cannot be read as a call.
+fn answer(call: &str, parts: &[&str]) -> Option<Answer> {
+    match call {
+        "check" => Some(check(&words(parts)?)),
+        "stepper" => with_number(parts, stepper),
+        "curves" => with_number(parts, curves_at),
+        "round" => with_number(parts, round_in),
+        "opening" => with_number(parts, opening_in),
+        _ => band_call(call, &numbers(parts)?),
+    }
+}
+
+/// The three calls that take no sheet.
+fn band_call(call: &str, numbers: &[u64]) -> Option<Answer> {
+    match (call, numbers) {
+        ("indicative", [lower, upper, traded, closing, auction]) => {
+            let price = indicative_price((*lower, *upper), *traded, *closing, *auction);
+            Some(price.map(|price| price.0.to_string()))
+        }
+        ("next", [code, indicative]) => Some(next_band(*code, *indicative).map(both)),
+        ("widen", [lower, upper, side]) => Some(widening(*lower, *upper, *side).map(both)),
+        _ => None,
+    }
+}
+
+fn both((lower, upper): (Price, Price)) -> String {
+    format!("{} {}", lower.0, upper.0)
+}
+
+/// A call that takes a number and then a sheet.
+fn with_number(parts: &[&str], call: fn(u64, &[u32]) -> Answer) -> Option<Answer> {
+    let (first, rest) = parts.split_first()?;
+    Some(call(number(first)?, &words(rest)?))
+}
+
+fn check(words: &[u32]) -> Answer {
+    read(words, GRID)?;
+    Ok("accepted".to_string())
+}
+
+fn stepper(k: u64, words: &[u32]) -> Answer {
+    let sheet = read(words, GRID)?;
+    let limit = limit_of_stepper(&sheet, GRID, k)?;
+    Ok(limit.0.to_string())
+}
+
+fn curves_at(p: u64, words: &[u32]) -> Answer {
+    let sheet = read(words, GRID)?;
+    let [demand, supply, volume] = curves(&sheet, GRID, p)?;
+    Ok(format!("{demand} {supply} {volume}"))
+}
+
+fn round_in(space: u64, words: &[u32]) -> Answer {
+    let sheet = read(words, GRID)?;
+    check_space(space, space_of_round(sheet.orders.len()))?;
+    Ok(hexadecimal(&first_round(&sheet, GRID).words(), " "))
+}
+
+fn opening_in(space: u64, words: &[u32]) -> Answer {
+    let sheet = read(words, GRID)?;
+    check_space(space, space_of_opening(sheet.orders.len()))?;
+    Ok(hexadecimal(&opening(&sheet, GRID).words(), " "))
+}
+
+/// A decimal number of 64 bits, without sign.
+fn number(text: &str) -> Option<u64> {
+    if text.bytes().all(|byte| byte.is_ascii_digit()) {
+        return text.parse().ok();
+    }
+    None
+}
+
+fn numbers(parts: &[&str]) -> Option<Vec<u64>> {
+    parts.iter().map(|part| number(part)).collect()
+}
+
+/// A word: 1 to 8 hexadecimal digits.
+fn word(text: &str) -> Option<u32> {
+    if text.len() <= 8 && text.bytes().all(|byte| byte.is_ascii_hexdigit()) {
+        return u32::from_str_radix(text, 16).ok();
+    }
+    None
+}
+
+fn words(parts: &[&str]) -> Option<Vec<u32>> {
+    parts.iter().map(|part| word(part)).collect()
+}

@@ -1,0 +1,344 @@
+//! The listing, the cases P1–P12, and the table of refusals, each in both ways.
+
+use crate::answer::Opening;
+use crate::calls::{answer_line, opening_program};
+use crate::chains::chain_sheet;
+use crate::shapes::{mirrored, Sizes};
+use crate::sheet::{Grid, Order, Pieces, Price, Sheet, Side, Terms};
+use crate::{fast, literal, random::Random};
+use Side::{Buy, Sell};
+
+/// A grid that holds the cases and is soon tried whole.
+const SMALL: Grid = Grid { last: 130 };
+
+const LISTING: &str = "1000005a 2000006e 30000064 40000064 50000002 60000069 8000000a \
+                       90000000 7000005f 80000004 90000000";
+const LISTED: &str = "a0000000 b0000069 c0000069 d0000004 e0000004 e0000004 a0000002 \
+                      b0000069 c0000000 d0000000 e0000000 e0000000 f0000002";
+
+fn limited(side: Side, quantity: u64, limit: u32, all_or_none: bool) -> Order {
+    let limit = Price(limit);
+    Order {
+        side,
+        terms: Terms::Limited { limit, all_or_none },
+        quantity: Pieces(quantity),
+    }
+}
+
+fn basic(side: Side, quantity: u64, limit: u32) -> Order {
+    limited(side, quantity, limit, false)
+}
+
+fn stepper(side: Side, quantity: u64, limit: u32, ignored: u64) -> Order {
+    let (limit, ignored) = (Price(limit), Pieces(ignored));
+    Order {
+        side,
+        terms: Terms::Stepper { limit, ignored },
+        quantity: Pieces(quantity),
+    }
+}
+
+/// D 90, H 110, last 100, I 100.
+fn sheet(orders: &[Order]) -> Sheet {
+    Sheet {
+        lower: Price(90),
+        upper: Price(110),
+        last_purchase: Price(100),
+        indicative: Price(100),
+        orders: orders.to_vec(),
+    }
+}
+
+/// The opening, the same in both ways and on both grids.
+fn opening(orders: &[Order]) -> Opening {
+    let sheet = sheet(orders);
+    let opening = fast::opening::opening(&sheet, Grid::DOCUMENT);
+    assert_eq!(opening, fast::opening::opening(&sheet, SMALL));
+    assert_eq!(opening, literal::opening::opening(&sheet, SMALL));
+    opening
+}
+
+/// Situation, auction price, purchase price and total of the first round.
+fn first(opening: &Opening) -> (u32, u32, u32, u64) {
+    let round = &opening.rounds[0];
+    let purchase = round.purchase_price.map_or(0, |price| price.0);
+    (
+        round.situation,
+        round.auction_price.0,
+        purchase,
+        round.total.0,
+    )
+}
+
+fn fills(opening: &Opening) -> Vec<u64> {
+    opening.rounds[0].fills.iter().map(|fill| fill.0).collect()
+}
+
+/// The limit in force of the last order, a Stepper, the same in both ways.
+fn stands(orders: &[Order]) -> u32 {
+    let sheet = sheet(orders);
+    let k = orders.len() - 1;
+    let limit = fast::opening::limit_of_stepper(&sheet, Grid::DOCUMENT, k as u64);
+    assert_eq!(limit, Ok(literal::Book::first(&sheet, SMALL).in_force[k]));
+    limit.unwrap().0
+}
+
+fn bytes_of(words: &str) -> Vec<u8> {
+    let words = words.split(' ');
+    let words = words.map(|word| u32::from_str_radix(word, 16).unwrap());
+    words.flat_map(u32::to_be_bytes).collect()
+}
+
+#[test]
+fn p1_listing() {
+    let lines = LISTED.replace(' ', "\n") + "\n";
+    assert_eq!(opening_program(&bytes_of(LISTING)), lines);
+    assert_eq!(answer_line(&format!("opening 19 {LISTING}")), LISTED);
+    assert_eq!(
+        answer_line(&format!("opening 18 {LISTING}")),
+        "refused 10 0"
+    );
+    let sheet = sheet(&[basic(Buy, 10, 105), basic(Sell, 4, 95)]);
+    let slow = literal::opening::opening(&sheet, Grid::DOCUMENT);
+    assert_eq!(crate::answer::hexadecimal(&slow.words(), " "), LISTED);
+}
+
+#[test]
+fn p2_no_orders() {
+    let opening = opening(&[]);
+    assert_eq!(first(&opening), (4, 100, 0, 0));
+    assert_eq!((opening.rounds.len(), opening.ending), (1, 0));
+}
+
+#[test]
+fn p3_outside_the_band() {
+    let orders = [basic(Buy, 5, 95), basic(Buy, 5, 80), basic(Sell, 10, 70)];
+    let opening = opening(&orders);
+    assert_eq!(first(&opening), (0, 80, 90, 5));
+    assert_eq!((opening.rounds.len(), opening.ending), (1, 2));
+}
+
+#[test]
+fn p4_blocked() {
+    let opening = opening(&[limited(Buy, 10, 105, true), basic(Sell, 4, 95)]);
+    assert_eq!(first(&opening), (0, 105, 0, 0));
+    assert_eq!((opening.rounds.len(), opening.ending), (1, 1));
+}
+
+#[test]
+fn p5_p6_p7_without_volume() {
+    assert_eq!(first(&opening(&[basic(Sell, 4, 104)])), (1, 100, 0, 0));
+    assert_eq!(first(&opening(&[basic(Sell, 4, 97)])), (1, 97, 0, 0));
+    assert_eq!(first(&opening(&[basic(Buy, 4, 96)])), (2, 100, 0, 0));
+    let apart = [basic(Buy, 5, 95), basic(Sell, 5, 105)];
+    assert_eq!(first(&opening(&apart)), (3, 100, 0, 0));
+}
+
+#[test]
+fn p8_nearest_the_last_purchase_price() {
+    let opening = opening(&[basic(Buy, 4, 105), basic(Sell, 4, 95)]);
+    assert_eq!(first(&opening), (0, 100, 100, 4));
+    assert_eq!((opening.rounds.len(), opening.ending), (2, 0));
+}
+
+#[test]
+fn p9_p10_steppers() {
+    let rivals = [basic(Buy, 5, 104), basic(Buy, 3, 101)];
+    let standing = |ignored| stands(&[rivals[0], rivals[1], stepper(Buy, 7, 108, ignored)]);
+    assert_eq!((standing(5), standing(4)), (102, 105));
+    assert_eq!(stands(&[stepper(Buy, 7, 108, 0)]), 90);
+    assert_eq!(stands(&[stepper(Buy, 7, 80, 0)]), 80);
+    let rivals = [basic(Sell, 5, 96), basic(Sell, 3, 99)];
+    let standing = |ignored| stands(&[rivals[0], rivals[1], stepper(Sell, 7, 92, ignored)]);
+    assert_eq!((standing(5), standing(4)), (98, 95));
+    assert_eq!(stands(&[stepper(Sell, 7, 92, 0)]), 110);
+    assert_eq!(stands(&[stepper(Sell, 7, 120, 0)]), 120);
+}
+
+#[test]
+fn p11_equal_beyond_the_bound() {
+    let orders = [basic(Buy, 3, 115), basic(Buy, 3, 120), basic(Sell, 3, 95)];
+    let opening = opening(&orders);
+    assert_eq!(first(&opening), (0, 110, 110, 3));
+    assert_eq!(fills(&opening), [3, 0, 3]);
+}
+
+#[test]
+fn p12_bands() {
+    let answers = [
+        ("next 0 2", "1 3"),
+        ("next 0 833334", "666668 1000000"),
+        ("next 0 833335", "refused 11 0"),
+        ("next 1 800000", "600000 1000000"),
+        ("next 1 1", "refused 11 0"),
+        ("next 2 1", "refused 9 0"),
+        ("next 0 0", "refused 9 0"),
+        ("widen 90 110 0", "90 121"),
+        ("widen 95 110 1", "86 110"),
+        ("widen 90 909091 0", "90 1000000"),
+        ("widen 90 909092 0", "refused 11 0"),
+        ("widen 90 909092 2", "refused 9 0"),
+        ("widen 90 90 1", "refused 9 0"),
+        ("indicative 90 110 0 0 111", "110"),
+        ("indicative 90 110 18446744073709551615 200 0", "200"),
+        ("indicative 90 110 1 0 100", "refused 9 0"),
+        ("indicative 110 90 1 100 100", "refused 9 0"),
+    ];
+    for (line, answer) in answers {
+        assert_eq!(answer_line(line), answer, "{line}");
+    }
+}
+
+#[test]
+fn tempting_errors() {
+    // An all-or-none order that does not fit stops those below it.
+    let orders = [
+        limited(Buy, 6, 105, true),
+        basic(Buy, 5, 100),
+        basic(Sell, 5, 95),
+    ];
+    assert_eq!(first(&opening(&orders)).3, 0);
+    // A rival Stepper counts at its entered limit.
+    assert_eq!(
+        stands(&[stepper(Buy, 5, 104, 0), stepper(Buy, 5, 108, 0)]),
+        105
+    );
+}
+
+/// The heading of the cases, without its last word.
+const HEAD: &str = "1000005a 2000006e 30000064 40000064";
+
+/// Each call is the part before `HEAD`, the heading, and the part after it.
+fn answered(lines: &[(&str, &str, &str)]) {
+    for (before, after, answer) in lines {
+        let line = format!("{before} {HEAD} {after}");
+        assert_eq!(answer_line(line.trim_end()), *answer, "{line}");
+    }
+}
+
+#[test]
+fn refusals_of_the_heading() {
+    assert_eq!(answer_line("check"), "refused 1 0");
+    let equal = "check 10000064 2000006e 30000064 40000064 50000079";
+    assert_eq!(answer_line(equal), "refused 3 0");
+    let off_grid = "check 10000000 2000006e 30000064 40000064 50000079";
+    assert_eq!(answer_line(off_grid), "refused 3 0");
+    answered(&[
+        ("check", "", "refused 1 0"),
+        ("check", "50000000", "accepted"),
+        ("check", "60000001", "refused 2 0"),
+        ("check", "50000079", "refused 4 0"),
+        ("check", "50000001", "refused 4 0"),
+    ]);
+}
+
+#[test]
+fn refusals_of_the_orders() {
+    let orders = [
+        (
+            "62000000 80000000 90000000 70000001 80000001 80000000",
+            6,
+            0,
+        ),
+        (
+            "60000000 80000001 90000000 73000001 80000000 80000000",
+            5,
+            1,
+        ),
+        (
+            "60000000 80000001 90000000 63000001 80000000 90000001",
+            6,
+            1,
+        ),
+        (
+            "60000000 80000001 90000000 600f4241 80000000 90000001",
+            6,
+            1,
+        ),
+        (
+            "60000000 80000001 90000000 610f4240 80000000 90000001",
+            7,
+            1,
+        ),
+        (
+            "60000000 80000001 90000000 610f4240 800f4240 90000001",
+            8,
+            1,
+        ),
+        (
+            "60000000 80000001 90000000 620f4240 800f4240 900f4241",
+            8,
+            1,
+        ),
+    ];
+    for (words, number, order) in orders {
+        let refused = format!("refused {number} {order}");
+        answered(&[("check", &format!("50000002 {words}"), &refused)]);
+    }
+    let accepted = "50000001 620f4240 800f4240 900f4240";
+    answered(&[("check", accepted, "accepted")]);
+}
+
+#[test]
+fn refusals_of_arguments_and_space() {
+    let stepper = "50000001 620f4240 800f4240 900f4240";
+    let all_or_none = "50000001 610f4240 800f4240 90000000";
+    let no_orders = "a0000004 b0000064 c0000000 d0000000";
+    answered(&[
+        ("stepper 0", stepper, "90"),
+        ("stepper 1", stepper, "refused 9 0"),
+        ("stepper 0", all_or_none, "refused 9 0"),
+        ("curves 0", all_or_none, "refused 9 0"),
+        ("curves 1000000", all_or_none, "1000000 0 0"),
+        ("curves 1000001", all_or_none, "refused 9 0"),
+        ("round 3", "50000000", "refused 10 0"),
+        ("round 4", "50000000", no_orders),
+        ("round 0", "50000001", "refused 4 0"),
+        ("opening 4", "50000000", "refused 10 0"),
+        ("opening 5", "50000000", &format!("{no_orders} f0000001")),
+    ]);
+}
+
+#[test]
+fn unreadable_lines() {
+    let lines = [
+        "next 0",
+        "next 0 -1",
+        "check 1000005g",
+        "check  1",
+        "check ",
+        "other",
+    ];
+    for line in lines {
+        assert_eq!(answer_line(line), "unreadable", "{line}");
+    }
+    let mut printed = Vec::new();
+    crate::calls::answer_lines(&b"# remark\n\nnext 0 2\n"[..], &mut printed).unwrap();
+    assert_eq!(printed, b"# remark\n1 3\n");
+}
+
+#[test]
+fn program_input() {
+    assert_eq!(opening_program(&[0x10]), "refused 12 0\n");
+    assert_eq!(opening_program(&[0; 1464]), "refused 12 0\n");
+    assert_eq!(opening_program(&[0; 1460]), "refused 2 0\n");
+    assert_eq!(opening_program(&[]), "refused 1 0\n");
+}
+
+#[test]
+fn chains_run_sixty_rounds() {
+    let sizes = Sizes {
+        grid: Grid::DOCUMENT,
+        orders: 119,
+        pieces: 1_000_000,
+    };
+    let mut random = Random::new(7);
+    for _ in 0..20 {
+        let sheet = chain_sheet(&mut random, sizes);
+        let turned = mirrored(&sheet, Grid::DOCUMENT);
+        for sheet in [sheet, turned] {
+            let opening = fast::opening::opening(&sheet, Grid::DOCUMENT);
+            assert_eq!(opening.rounds.len(), 60);
+        }
+    }
+}

@@ -1,0 +1,66 @@
+//! Limits in force, from the entered limits put in order.
+
+use super::{far_bound, near_bound, Keenness, Live, State};
+use crate::sheet::{Side, Terms};
+
+/// The orders of a side with something remaining, by entered limit, keenest first.
+fn entered(state: &State, side: Side) -> Vec<Live> {
+    let mut orders: Vec<Live> = Vec::new();
+    for (number, order) in state.sheet.orders.iter().enumerate() {
+        if order.side != side || state.remaining[number] == 0 {
+            continue;
+        }
+        let limit = match order.terms {
+            Terms::WithoutLimit { .. } => near_bound(state.sheet, side),
+            Terms::Limited { limit, .. } | Terms::Stepper { limit, .. } => {
+                Keenness::of(side, limit)
+            }
+        };
+        orders.push(Live {
+            number,
+            remaining: state.remaining[number],
+            limit,
+            all_or_none: order.is_all_or_none(),
+        });
+    }
+    orders.sort_by_key(|order| std::cmp::Reverse(order.limit));
+    orders
+}
+
+/// "The best rival price is the highest price at which the remaining pieces of the
+/// *other* buys with entered limit at or above it exceed the ignored quantity." Walking
+/// from the keenest rival on, the best rival price is the limit of the one that
+/// takes the sum of pieces above the ignored quantity.
+fn best_rival(entered: &[Live], stepper: usize, ignored: u64) -> Option<Keenness> {
+    let mut pieces = 0;
+    let mut rivals = entered.iter().filter(|order| order.number != stepper);
+    let crossing = rivals.find(|rival| {
+        pieces += rival.remaining;
+        pieces > ignored
+    });
+    crossing.map(|rival| rival.limit)
+}
+
+/// "Its limit in force is the smaller of the entered limit and max(D, best rival + 1).
+/// With no rival price it is the smaller of entered limit and D. A sell mirrors this." In
+/// keenness: the entered limit, or one step keener than the best rival if that is less keen; never
+/// less keen than the far bound unless the entered limit is.
+fn stepped(entered: Keenness, far: Keenness, rival: Option<Keenness>) -> Keenness {
+    let wanted = rival.map_or(far, |rival| rival.keener().max(far));
+    wanted.min(entered)
+}
+
+/// The orders of a side with something remaining, by limit in force, keenest first.
+pub fn in_force(state: &State, side: Side) -> Vec<Live> {
+    let entered = entered(state, side);
+    let far = far_bound(state.sheet, side);
+    let mut orders = entered.clone();
+    for order in &mut orders {
+        if let Terms::Stepper { ignored, .. } = state.sheet.orders[order.number].terms {
+            let rival = best_rival(&entered, order.number, ignored.0);
+            order.limit = stepped(order.limit, far, rival);
+        }
+    }
+    orders.sort_by_key(|order| std::cmp::Reverse(order.limit));
+    orders
+}

@@ -1,0 +1,233 @@
+//! Sheet: its words, its orders, and the checks that accept or refuse it.
+
+use crate::refusal::*;
+use std::iter::Sum;
+
+/// "Prices run from 1 to 1,000,000, the grid."
+pub const LAST_PRICE: u32 = 1_000_000;
+pub const MOST_ORDERS: usize = 120;
+pub const MOST_PIECES: u32 = 1_000_000;
+pub const HEADING_WORDS: usize = 5;
+pub const ORDER_WORDS: usize = 3;
+
+/// A price counts steps of ten hellers.
+#[derive(Clone, Copy, Debug, PartialEq, Eq, PartialOrd, Ord)]
+pub struct Price(pub u32);
+
+/// A quantity counts pieces.
+#[derive(Clone, Copy, Debug, PartialEq, Eq, PartialOrd, Ord)]
+pub struct Pieces(pub u64);
+
+impl Sum for Pieces {
+    fn sum<I: Iterator<Item = Pieces>>(parts: I) -> Pieces {
+        Pieces(parts.map(|part| part.0).sum())
+    }
+}
+
+/// The grid, its last price a parameter so that small grids can be tried whole.
+#[derive(Clone, Copy, Debug, PartialEq, Eq)]
+pub struct Grid {
+    pub last: u32,
+}
+
+impl Grid {
+    pub const DOCUMENT: Grid = Grid { last: LAST_PRICE };
+
+    /// Every price of the grid, lowest first.
+    pub fn prices(self) -> impl Iterator<Item = Price> {
+        (1..=self.last).map(Price)
+    }
+
+    /// The number as a price, if it lies on the grid.
+    pub fn price(self, number: u64) -> Option<Price> {
+        let on_grid = 1 <= number && number <= u64::from(self.last);
+        on_grid.then_some(Price(number as u32))
+    }
+}
+
+#[derive(Clone, Copy, Debug, PartialEq, Eq)]
+pub enum Side {
+    Buy,
+    Sell,
+}
+
+/// "An order is without limit, limited, or a Stepper that carries its ignored
+/// quantity; all-or-none belongs to the first two."
+#[derive(Clone, Copy, Debug, PartialEq, Eq)]
+pub enum Terms {
+    WithoutLimit { all_or_none: bool },
+    Limited { limit: Price, all_or_none: bool },
+    Stepper { limit: Price, ignored: Pieces },
+}
+
+#[derive(Clone, Copy, Debug, PartialEq, Eq)]
+pub struct Order {
+    pub side: Side,
+    pub terms: Terms,
+    pub quantity: Pieces,
+}
+
+impl Order {
+    pub fn is_all_or_none(&self) -> bool {
+        match self.terms {
+            Terms::WithoutLimit { all_or_none } | Terms::Limited { all_or_none, .. } => all_or_none,
+            Terms::Stepper { .. } => false,
+        }
+    }
+
+    pub fn is_stepper(&self) -> bool {
+        matches!(self.terms, Terms::Stepper { .. })
+    }
+
+    /// The order's three words.
+    pub fn words(&self) -> [u32; ORDER_WORDS] {
+        let kind = match self.side {
+            Side::Buy => 6,
+            Side::Sell => 7,
+        };
+        let (disposition, limit, ignored) = match self.terms {
+            Terms::WithoutLimit { all_or_none } => (u32::from(all_or_none), 0, 0),
+            Terms::Limited { limit, all_or_none } => (u32::from(all_or_none), limit.0, 0),
+            Terms::Stepper { limit, ignored } => (2, limit.0, ignored.0 as u32),
+        };
+        let first = word(kind, disposition << 24 | limit);
+        [first, word(8, self.quantity.0 as u32), word(9, ignored)]
+    }
+}
+
+/// An accepted sheet.
+#[derive(Clone, Debug, PartialEq, Eq)]
+pub struct Sheet {
+    /// D, the lower band bound.
+    pub lower: Price,
+    /// H, the upper band bound.
+    pub upper: Price,
+    pub last_purchase: Price,
+    /// I, the indicative price.
+    pub indicative: Price,
+    pub orders: Vec<Order>,
+}
+
+impl Sheet {
+    /// The words from which the sheet is read.
+    pub fn words(&self) -> Vec<u32> {
+        let heading = [
+            word(1, self.lower.0),
+            word(2, self.upper.0),
+            word(3, self.last_purchase.0),
+            word(4, self.indicative.0),
+            word(5, self.orders.len() as u32),
+        ];
+        let orders = self.orders.iter().flat_map(Order::words);
+        heading.into_iter().chain(orders).collect()
+    }
+
+    /// Whether a price lies in D..H.
+    pub fn in_band(&self, price: Price) -> bool {
+        self.lower <= price && price <= self.upper
+    }
+}
+
+/// "The top 4 bits of a word are its kind, the low 28 its value."
+pub fn word(kind: u32, value: u32) -> u32 {
+    assert!(kind < 16 && value < 1 << 28);
+    kind << 28 | value
+}
+
+fn kind(word: u32) -> u32 {
+    word >> 28
+}
+
+fn value(word: u32) -> u32 {
+    word & 0x0fff_ffff
+}
+
+/// "Checks run downwards": the heading, then the orders, lowest number first.
+pub fn read(words: &[u32], grid: Grid) -> Result<Sheet, Refusal> {
+    let mut sheet = read_heading(words, grid)?;
+    for (number, three) in words[HEADING_WORDS..].chunks(ORDER_WORDS).enumerate() {
+        let order = read_order(three, grid).map_err(|fault| Refusal {
+            number: fault,
+            order: number,
+        })?;
+        sheet.orders.push(order);
+    }
+    Ok(sheet)
+}
+
+/// Refusals 1, 2, 3, 4, each over all its words before the next.
+fn read_heading(words: &[u32], grid: Grid) -> Result<Sheet, Refusal> {
+    if words.len() < HEADING_WORDS {
+        return Err(TOO_SHORT);
+    }
+    let heading = &words[..HEADING_WORDS];
+    if heading
+        .iter()
+        .zip(1..)
+        .any(|(w, expected)| kind(*w) != expected)
+    {
+        return Err(HEADING_KIND);
+    }
+    let price = |place: usize| grid.price(value(words[place]).into()).ok_or(HEADING_PRICE);
+    let (lower, upper, last_purchase, indicative) = (price(0)?, price(1)?, price(2)?, price(3)?);
+    if !(lower < indicative && indicative < upper) {
+        return Err(HEADING_PRICE);
+    }
+    let count = value(words[4]) as usize;
+    if count > MOST_ORDERS || words.len() != HEADING_WORDS + ORDER_WORDS * count {
+        return Err(LENGTH);
+    }
+    Ok(Sheet {
+        lower,
+        upper,
+        last_purchase,
+        indicative,
+        orders: Vec::new(),
+    })
+}
+
+/// Refusals 5, 6, 7, 8 of one order; the number is handed back alone.
+fn read_order(three: &[u32], grid: Grid) -> Result<Order, u32> {
+    let side = match kind(three[0]) {
+        6 => Side::Buy,
+        7 => Side::Sell,
+        _ => return Err(ORDER_KIND),
+    };
+    if kind(three[1]) != 8 || kind(three[2]) != 9 {
+        return Err(ORDER_KIND);
+    }
+    let (quantity, ignored) = (value(three[1]), value(three[2]));
+    let terms = read_terms(value(three[0]), ignored, grid)?;
+    if !(1..=MOST_PIECES).contains(&quantity) {
+        return Err(ORDER_QUANTITY);
+    }
+    if ignored > MOST_PIECES || ignored > 0 && !matches!(terms, Terms::Stepper { .. }) {
+        return Err(ORDER_IGNORED);
+    }
+    Ok(Order {
+        side,
+        terms,
+        quantity: Pieces(quantity.into()),
+    })
+}
+
+/// "Value bits 0–23 the limit, bits 24–27 the disposition: 0 basic, 1 all-or-none,
+/// 2 Stepper." "Limit 0 means no limit and is barred for a Stepper. Other limits are
+/// grid prices."
+fn read_terms(first: u32, ignored: u32, grid: Grid) -> Result<Terms, u32> {
+    let (disposition, entered) = (first >> 24, first & 0x00ff_ffff);
+    let limit = grid.price(entered.into());
+    if disposition > 2 || (entered != 0 && limit.is_none()) {
+        return Err(ORDER_LIMIT);
+    }
+    let all_or_none = disposition == 1;
+    match (disposition, limit) {
+        (2, None) => Err(ORDER_LIMIT),
+        (2, Some(limit)) => Ok(Terms::Stepper {
+            limit,
+            ignored: Pieces(ignored.into()),
+        }),
+        (_, None) => Ok(Terms::WithoutLimit { all_or_none }),
+        (_, Some(limit)) => Ok(Terms::Limited { limit, all_or_none }),
+    }
+}
