@@ -154,12 +154,14 @@ def rounds_of(result):
 
 
 def random_lines(count, seed):
-    """Whole openings of small sheets, a third as many first rounds of others, and as many of each other call."""
+    """Whole openings of small sheets, a third as many first rounds of others, at times in a space one word short, and as many
+    of each other call."""
     some = max(int(count) // 3, 1)
     lines = reference("sheets", "small", count, seed)
-    for line in reference("sheets", "small", str(some), seed + "1"):
+    for number, line in enumerate(reference("sheets", "small", str(some), seed + "1")):
         _, _, *sheet = line.split()
-        lines.append(" ".join(["round", str(4 + (len(sheet) - 5) // 3), *sheet]))
+        short = number % 8 == 0
+        lines.append(" ".join(["round", str(4 + (len(sheet) - 5) // 3 - short), *sheet]))
     for kind in ("check", "stepper", "curves", "band"):
         made = reference("sheets", kind, str(8 * some), seed)
         lines += [line for line in made if len(line.split()) <= MOST_WORDS + 2][:some]

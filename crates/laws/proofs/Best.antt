@@ -1,9 +1,9 @@
 -- The best price with a property, for a side given as parameter: what the scan of the grid finds, and how to recognise it.
 -- A price has a place, counted from the side's worst price on; on that scale higher is better for both sides.
 use mathlib.Core.Bool.{Bool, true, false}
-use mathlib.Core.Option.{Option, none, some}
+use mathlib.Core.Option.{none, some}
 use mathlib.Core.Path.{_≡_, refl, sym, ap, _∙_}
-use Prim.Native.Nat.{ℕ, zero, suc, _+_, _-_, _≤_, _<_, zero-le}
+use Prim.Native.Nat.{ℕ, zero, suc, _+_, _-_, _≤_, _<_}
 use native.Mathlib.Nat.{le-antisymm}
 use native.Mathlib.Omega.{arith}
 use lib.Dec.{leb}
@@ -62,33 +62,36 @@ not-both : {t : Bool} → t ≡ true → t ≡ false → ⊥
 not-both e f = let z : _≡_ {A = ℕ} 0 1 = cc in omega arith
 
 module _ (s : Side) (P : ℕ → Bool) where
+  -- the last place whose price passes, 0 where there is none
   abbrev last : ℕ
   last = largestTo (λ k. P (nth s k)) lastPrice
-
-  last-le : last ≤ lastPrice
-  last-le = largest-le (λ k. P (nth s k)) lastPrice
 
   passing : (q : ℕ) → OnGrid q → P q ≡ true → place s q ≤ last
   passing q on e = largest-ge (λ k. P (nth s k)) lastPrice (place s q) (place-on s q on .1) (ap P (nth-place s q on) ∙ e)
 
-  -- ---- Recognising it
+  last-on : (k : ℕ) → last ≡ suc k → OnGrid (suc k)
+  last-on k e = (omega arith, omega (arith, largest-le (λ k. P (nth s k)) lastPrice))
+
+  last-passes : (k : ℕ) → last ≡ suc k → P (nth s (suc k)) ≡ true
+  last-passes k e =
+      ap (λ (j : ℕ). P (nth s j)) (sym e) ∙ largest-passes (λ k. P (nth s k)) lastPrice (omega arith)
 
   pub best-is : (p : ℕ) → Best s P p → bestAmong s P lastPrice ≡ some p
   best-is p b =
       best-place s P lastPrice ∙ ap (priceAt s) (le-antisymm (at-most last refl) (passing p (b .on) (b .passes)))
       ∙ price-at s (place s p) (place-on s p (b .on) .0) ∙ ap some (nth-place s p (b .on))
     where
+      beyond : (k : ℕ) → last ≡ suc k → (t : Bool) → leb (suc k) (place s p) ≡ t → last ≤ place s p
+      beyond k e true t = omega (arith, leb-true (suc k) (place s p) t)
+      beyond k e false t =
+          let on = last-on k e in
+          absurd (not-both (last-passes k e)
+          (b .only (nth s (suc k)) (nth-on s (suc k) on)
+          (further s p (suc k) (b .on) (on .1) (leb-false (suc k) (place s p) t))))
+
       at-most : (k : ℕ) → last ≡ k → last ≤ place s p
       at-most zero e = omega (arith, place-on s p (b .on))
-      at-most (suc k) e = compared (leb (suc k) (place s p)) refl
-        where
-          compared : (t : Bool) → leb (suc k) (place s p) ≡ t → last ≤ place s p
-          compared true t = omega (arith, leb-true (suc k) (place s p) t)
-          compared false t =
-              let on : OnGrid (suc k) = (omega arith, omega (arith, last-le)) in
-              absurd (not-both (ap (λ (j : ℕ). P (nth s j)) (sym e) ∙ largest-passes (λ k. P (nth s k)) lastPrice (omega arith))
-              (b .only (nth s (suc k)) (nth-on s (suc k) on)
-              (further s p (suc k) (b .on) (on .1) (leb-false (suc k) (place s p) t))))
+      at-most (suc k) e = beyond k e (leb (suc k) (place s p)) refl
 
   pub none-is : NonePasses P → bestAmong s P lastPrice ≡ none
   none-is fails = best-place s P lastPrice ∙ ap (priceAt s) (nowhere last refl)
@@ -96,6 +99,4 @@ module _ (s : Side) (P : ℕ → Bool) where
       nowhere : (k : ℕ) → last ≡ k → last ≡ 0
       nowhere zero e = e
       nowhere (suc k) e =
-          let on : OnGrid (suc k) = (omega arith, omega (arith, last-le)) in
-          absurd (not-both (ap (λ (j : ℕ). P (nth s j)) (sym e) ∙ largest-passes (λ k. P (nth s k)) lastPrice (omega arith))
-          (fails (nth s (suc k)) (nth-on s (suc k) on)))
+          absurd (not-both (last-passes k e) (fails (nth s (suc k)) (nth-on s (suc k) (last-on k e))))

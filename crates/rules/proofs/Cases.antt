@@ -1,7 +1,7 @@
 -- Every case of the table holds. What the rules answer is worked out by the limits alone; a test of two answers is computed
 -- once over the whole table, and what it tells of each case is shown once for any table.
 use mathlib.Core.Bool.{Bool, true, false, _&&_, false≢true}
-use mathlib.Core.List.{List, [], _∷_, _++_}
+use mathlib.Core.List.{List, [], _∷_}
 use mathlib.Core.Path.{_≡_, refl, ap, _∙_}
 use Prim.Native.Nat.{ℕ}
 use lib.Dec.{eqb}
@@ -12,7 +12,7 @@ use Rattle.rules.proofs.Quick.{quickRound, quickAnswer, quick-answer}
 use Rattle.rules.specs.Answers.{Answer, gives, refuses, downwards}
 use Rattle.rules.specs.AuctionPrice.{level, uncrossed, auctionBy}
 use Rattle.rules.specs.Band.{bandStands, indicativePrice, nextUpper, nextLower, nextBandFor, percentOf, nextBand, widenedUpper, widenedLower, widenedFor, widenedBand}
-use Rattle.rules.specs.Calls.{Call, answerBy}
+use Rattle.rules.specs.Calls.{answerBy}
 use Rattle.rules.specs.Cases.{Case, AllHold, documentCases, furtherCases}
 use Rattle.rules.specs.Fills.{eligible, firstOf, total, offered, ahead, share, reaches, largestTotal, fillsOf}
 use Rattle.rules.specs.Grid.{onGrid, movedInto}

@@ -7,15 +7,14 @@ use mathlib.Core.Path.{_≡_, refl, sym, ap, _∙_, fun-ext}
 use Prim.Native.Nat.{ℕ, zero, suc, _+_, _-_, _≤_, _<_}
 use native.Mathlib.Omega.{arith}
 use lib.Dec.{leb, leb·zero}
-use lib.ListN.{length, getD}
+use lib.ListN.{length}
 use borrow.Author.Tests.{leb-true, leb-false, le-leb, lt-leb}
-use Rattle.rules.proofs.Lists.{length-listed, getD-listed}
-use Rattle.rules.proofs.Scan.{Same, Stepwise, greatestAt, placeIf, valueIf, largest-at-ends, greatest-at-ends}
+use Rattle.rules.proofs.Scan.{Same, greatestAt, placeIf, valueIf, largest-at-ends, greatest-at-ends}
 use Rattle.rules.proofs.Sums.{sum-same}
-use Rattle.rules.specs.AuctionPrice.{Level, level, inBand, demand, supply, curve}
+use Rattle.rules.specs.AuctionPrice.{level, inBand, demand, supply}
 use Rattle.rules.specs.Grid.{lastPrice, nth, bestAmong, greatestTo, Scan, overGrid}
 use Rattle.rules.specs.Limits.{sameSide, numbered, allows, standsAt, piecesAt}
-use Rattle.rules.specs.Lists.{listed, largestTo}
+use Rattle.rules.specs.Lists.{largestTo}
 use Rattle.rules.specs.Sheet.{D, H}
 use Rattle.rules.specs.declared.Heading.{Heading}
 use Rattle.rules.specs.declared.Side.{Side}
@@ -53,7 +52,8 @@ leb-not a b c d f g = go (leb a b) refl
     go true e = e ∙ sym (ap not (lt-leb c d (f (leb-true a b e))))
     go false e = e ∙ sym (ap not (le-leb c d (g (leb-false a b e))))
 
-same-for : (s : Side) (ps : List ℕ) (i j : ℕ) → 1 ≤ i → 1 ≤ j → Same (endsFor s ps) i j → Same ps (nth s i) (nth s j)
+same-for : (s : Side) (ps : List ℕ) (i j : ℕ) → 1 ≤ i → 1 ≤ j → Same (endsFor s ps) i j
+    → Same ps (nth s i) (nth s j)
 same-for Buy ps i j hi hj e = e
 same-for Sell [] i j hi hj e = tt
 same-for Sell (p ∷ ps) i j hi hj e = (mirrored i hi ∙ ap not (e .0) ∙ sym (mirrored j hj), same-for Sell ps i j hi hj (e .1))
@@ -97,7 +97,8 @@ abbrev pub limitEnd : Side → ℕ → ℕ
 limitEnd Buy limit = limit
 limitEnd Sell limit = limit - 1
 
-pub allows-same : (s : Side) (limit p q : ℕ) → leb p (limitEnd s limit) ≡ leb q (limitEnd s limit) → allows s limit p ≡ allows s limit q
+allows-same : (s : Side) (limit p q : ℕ) → leb p (limitEnd s limit) ≡ leb q (limitEnd s limit)
+    → allows s limit p ≡ allows s limit q
 allows-same Buy limit p q e = e
 allows-same Sell zero p q e = leb·zero p ∙ sym (leb·zero q)
 allows-same Sell (suc l) p q e = above p ∙ ap not e ∙ sym (above q)

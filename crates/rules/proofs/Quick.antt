@@ -1,8 +1,7 @@
 -- The rules by the limits alone: what the rules answer, with each scan of the grid replaced by a look at the limits. It
 -- computes in no time, and the law of the scans makes it equal; of the rules' own text nothing is repeated here.
-use mathlib.Core.Bool.{true}
 use mathlib.Core.List.{List}
-use mathlib.Core.Path.{_≡_, refl, ap, _∙_, fun-ext}
+use mathlib.Core.Path.{_≡_, ap, _∙_, fun-ext}
 use Prim.Native.Nat.{ℕ}
 use Rattle.rules.proofs.Ends.{overEnds, scan-at-ends, limitEnds, levelEnds, pieces-step, level-step}
 use Rattle.rules.specs.Answers.{Answer}

@@ -4,7 +4,7 @@ use mathlib.Core.Bool.{Bool, true, false, _&&_, cond}
 use mathlib.Core.List.{List, [], _∷_}
 use mathlib.Core.Logic.{_⊎_, inl, inr}
 use mathlib.Core.Path.{_≡_, refl, sym, ap, _∙_}
-use Prim.Native.Nat.{ℕ, zero, suc, _+_, _-_, _≤_, _<_, max, min, zero-le}
+use Prim.Native.Nat.{ℕ, zero, suc, _≤_, _<_, max, min, zero-le}
 use native.Mathlib.Nat.{le-refl, le-trans, le-antisymm, le-max-left, le-max-right, max-le, eq-or-lt-of-le}
 use native.Mathlib.Omega.{arith}
 use lib.Dec.{leb}
@@ -14,7 +14,8 @@ use Rattle.rules.specs.Grid.{greatestTo}
 use Rattle.rules.specs.Lists.{largestTo}
 
 -- by cases on a test, with its outcome as an equation
-pub by-test {ℓ} : {A : Type ℓ} (R : A → Type 0) (t : Bool) {x y : A} → (t ≡ true → R x) → (t ≡ false → R y) → R (cond t x y)
+pub by-test {ℓ} : {A : Type ℓ} (R : A → Type 0) (t : Bool) {x y : A} → (t ≡ true → R x) → (t ≡ false → R y)
+    → R (cond t x y)
 by-test R true f g = f refl
 by-test R false f g = g refl
 
@@ -134,7 +135,8 @@ in-range n c h₁ h₂ = simp (le-leb 1 c h₁, le-leb c n h₂)
 abbrev pub placeIf : (ℕ → Bool) → ℕ → ℕ → ℕ
 placeIf P n c = cond (inRange n c && P c) c 0
 
-pub largest-at-ends : (P : ℕ → Bool) (cs : List ℕ) (n : ℕ) → Stepwise cs n P → largestTo P n ≡ greatestAt (placeIf P n) cs n
+pub largest-at-ends : (P : ℕ → Bool) (cs : List ℕ) (n : ℕ) → Stepwise cs n P
+    → largestTo P n ≡ greatestAt (placeIf P n) cs n
 largest-at-ends P cs n steps =
     le-antisymm (reached (largestTo P n) refl) (at-most (placeIf P n) cs n (largestTo P n) each)
   where
@@ -163,7 +165,8 @@ largest-at-ends P cs n steps =
 abbrev pub valueIf : (ℕ → ℕ) → ℕ → ℕ → ℕ
 valueIf f n c = cond (inRange n c) (f c) 0
 
-pub greatest-at-ends : (f : ℕ → ℕ) (cs : List ℕ) (n : ℕ) → Stepwise cs n f → greatestTo f n ≡ greatestAt (valueIf f n) cs n
+pub greatest-at-ends : (f : ℕ → ℕ) (cs : List ℕ) (n : ℕ) → Stepwise cs n f
+    → greatestTo f n ≡ greatestAt (valueIf f n) cs n
 greatest-at-ends f cs n steps =
     le-antisymm (greatest-le f n _ reached) (at-most (valueIf f n) cs n (greatestTo f n) each)
   where

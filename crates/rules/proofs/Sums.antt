@@ -1,6 +1,6 @@
 -- Laws of sums by number: parts that are equal, or at most as large, give sums that are.
 use mathlib.Core.Path.{_≡_, refl}
-use Prim.Native.Nat.{ℕ, zero, suc, _+_, _≤_, _<_, zero-le}
+use Prim.Native.Nat.{ℕ, zero, suc, _≤_, _<_, zero-le}
 use native.Mathlib.Nat.{add-le-add}
 use native.Mathlib.Omega.{arith}
 use Rattle.rules.specs.Lists.{sumTo}

@@ -2,11 +2,11 @@
 -- refusals 9 and 10.
 use mathlib.Core.Bool.{Bool, true, false, not, _&&_}
 use mathlib.Core.List.{List, [], _∷_, _++_}
-use Prim.Native.Nat.{ℕ, min}
+use Prim.Native.Nat.{ℕ}
 use lib.Dec.{ltb}
 use lib.ListN.{length, drop}
 use Rattle.rules.specs.Answers.{Answer, gives, refuses, Check, row, downwards}
-use Rattle.rules.specs.AuctionPrice.{demand, supply, level, volume}
+use Rattle.rules.specs.AuctionPrice.{Level, level, volume}
 use Rattle.rules.specs.Band.{indicativePrice, nextBand, widenedBand}
 use Rattle.rules.specs.Grid.{onGrid}
 use Rattle.rules.specs.Limits.{filed, numbered, standing}
@@ -41,6 +41,10 @@ stepper (Stepper l q) = true
 abbrev pub isStepper : List ℕ → ℕ → Bool
 isStepper ws k = ltb k (headingOf ws .count) && stepper (filed (ordersOf ws) k .terms)
 
+-- Demand, supply and volume.
+abbrev pub curvesOf : Level → List ℕ
+curvesOf v = v .demand ∷ v .supply ∷ volume v ∷ []
+
 -- The orders of a sheet in its first round, at their limits in force.
 unfoldable pub firstStanding : List ℕ → List Standing
 firstStanding ws = standing (headingOf ws) (ordersOf ws) (firstStart ws .remaining)
@@ -50,8 +54,7 @@ unfoldable pub answerBy : (List ℕ → List Standing) → (List ℕ → Start �
 answerBy first roundOf (check ws) = checkSheet ws
 answerBy first roundOf (stepperLimit ws k) = onSheet ws (row 9 (not (isStepper ws k))) (numbered (first ws) k .limit .0 ∷ [])
 answerBy first roundOf (curvesAt ws p) =
-    onSheet ws (row 9 (not (onGrid p)))
-    (demand (first ws) p ∷ supply (first ws) p ∷ min (demand (first ws) p) (supply (first ws) p) ∷ [])
+    onSheet ws (row 9 (not (onGrid p))) (curvesOf (level (headingOf ws) (first ws) p))
 answerBy first roundOf (firstRound ws space) =
     onSheet ws (row 10 (ltb space (roundSpace (headingOf ws .count)))) (roundWords (roundOf ws (firstStart ws)))
 answerBy first roundOf (opening ws space) =

@@ -5,8 +5,8 @@ use mathlib.Core.Path.{_≡_}
 use Prim.Native.Nat.{ℕ, _+_, _*_}
 use lib.ListN.{length}
 use Rattle.rules.specs.Answers.{Answer, gives, refuses}
-use Rattle.rules.specs.Words.{word}
 use Rattle.rules.specs.Calls.{Call, check, stepperLimit, curvesAt, firstRound, opening, indicative, next, widen, answer}
+use Rattle.rules.specs.Words.{word}
 
 -- ---- The table's statement
 

@@ -1,7 +1,7 @@
 -- Document 01, demand 3: a single claim about a sheet and all the result words of its opening. Nothing else appears in it:
 -- what a round starts from is worked out from the sheet and the words of the rounds before.
 use mathlib.Core.Bool.{true, false}
-use mathlib.Core.List.{List, [], _∷_}
+use mathlib.Core.List.{List}
 use mathlib.Core.Logic.{_↔_}
 use mathlib.Core.Path.{_≡_}
 use Prim.Native.Nat.{ℕ, zero, suc, _+_, _-_, _*_, _/_, _≤_, _<_}

@@ -1,6 +1,6 @@
 -- Document 01, "Fills": who is eligible, the priority, F1–F4 for any list of fills, and the fills. The orders os stand at
 -- their limits in force, and a is the auction of the round.
-use mathlib.Core.Bool.{Bool, true, false, not, _&&_, _||_, Bool·beq, cond}
+use mathlib.Core.Bool.{Bool, true, not, _&&_, _||_, Bool·beq, cond}
 use mathlib.Core.List.{List}
 use mathlib.Core.Logic.{_⊎_, _≢_}
 use mathlib.Core.Path.{_≡_}
@@ -62,18 +62,21 @@ fillOf fills k = getD fills k 0
 unfoldable pub total : Side → List Standing → List ℕ → ℕ
 total s os fills = sumTo (λ k. cond (sameSide s (numbered os k .side)) (fillOf fills k) 0) (length os)
 
+-- An order is filled completely if that is all its remainder.
+abbrev pub FilledCompletely : List Standing → List ℕ → ℕ → Type 0
+FilledCompletely os fills k = fillOf fills k ≡ numbered os k .remaining .0
+
 pub record Lawful (h : Heading) (a : Auction) (os : List Standing) (fills : List ℕ) : Type 0 where
   -- F1: only eligible orders are filled,
   pub F1-eligible : (k : ℕ) → k < length os → 0 < fillOf fills k → eligible h a (numbered os k) ≡ true
   -- none beyond its remainder.
   pub F1-within : (k : ℕ) → k < length os → fillOf fills k ≤ numbered os k .remaining .0
-  -- F2: an eligible order ranked on its side below one not filled completely gets nothing. An order is filled completely if
-  -- its fill is all its remainder.
-  pub F2 : (i k : ℕ) → i < length os → k < length os → eligible h a (numbered os k) ≡ true → rankedBefore h os i k ≡ true
-      → fillOf fills i ≢ numbered os i .remaining .0 → fillOf fills k ≡ 0
+  -- F2: an eligible order ranked on its side below one not filled completely gets nothing.
+  pub F2 : (above k : ℕ) → above < length os → k < length os → eligible h a (numbered os k) ≡ true
+      → rankedBefore h os above k ≡ true → (FilledCompletely os fills above → ⊥) → fillOf fills k ≡ 0
   -- F3: an all-or-none order gets all its remainder or nothing.
   pub F3 : (k : ℕ) → k < length os → numbered os k .«all_or_none» ≡ true
-      → (fillOf fills k ≡ numbered os k .remaining .0) ⊎ (fillOf fills k ≡ 0)
+      → FilledCompletely os fills k ⊎ (fillOf fills k ≡ 0)
   -- F4: both sides have equal totals.
   pub F4 : total Buy os fills ≡ total Sell os fills
 

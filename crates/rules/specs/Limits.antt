@@ -86,6 +86,8 @@ entered h orders remaining =
 
 -- ---- The limit in force
 
+-- A Stepper's limit in force is worked out afresh in each round: from what remains then.
+
 -- Order j is another than order k.
 abbrev pub others : ℕ → ℕ → Bool
 others k j = not (eqb j k)
@@ -114,7 +116,7 @@ limitInForce h s (WithoutLimit a) rivals = enteredLimit h s (WithoutLimit a)
 limitInForce h s (Limited l a) rivals = enteredLimit h s (Limited l a)
 limitInForce h s (Stepper l q) rivals = stepped h s (enteredLimit h s (Stepper l q)) (bestRival rivals s (q .0))
 
--- The orders at their limits in force, where rivals k tells the prices of order k by the pieces of its rivals.
+-- The orders at their limits in force, where rivals k has the prices of the grid by the pieces of order k's rivals.
 unfoldable pub standingBy : (ℕ → Scan ℕ) → Heading → List Order → List ℕ → List Standing
 standingBy rivals h orders remaining =
     listed
@@ -122,6 +124,6 @@ standingBy rivals h orders remaining =
     stands (filed orders k) (limitInForce h (filed orders k .side) (filed orders k .terms) (rivals k)) (getD remaining k 0))
     (length orders)
 
--- A Stepper's limit in force is worked out afresh in each round, from what remains then, over the whole grid.
+-- The orders at their limits in force, over the whole grid.
 unfoldable pub standing : Heading → List Order → List ℕ → List Standing
 standing h orders remaining = standingBy (λ k. overGrid (rivalPieces h orders remaining k)) h orders remaining

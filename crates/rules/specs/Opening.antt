@@ -3,12 +3,12 @@ use mathlib.Core.Bool.{Bool, _&&_, cond}
 use mathlib.Core.List.{List, [], _∷_, _++_, map}
 use Prim.Native.Nat.{ℕ, zero, suc, _+_, _-_, _*_}
 use lib.Dec.{leb, ltb, eqb}
-use lib.ListN.{length, getD}
+use lib.ListN.{length, getD, replicate}
 use Rattle.rules.specs.AuctionPrice.{inBand, Auction, auction}
 use Rattle.rules.specs.Fills.{fillOf, total, fillsOf, purchasePrice}
-use Rattle.rules.specs.Limits.{filed, standing}
+use Rattle.rules.specs.Limits.{standing}
 use Rattle.rules.specs.Lists.{listed}
-use Rattle.rules.specs.Sheet.{headingOf, ordersOf}
+use Rattle.rules.specs.Sheet.{mostOrders, headingOf, ordersOf}
 use Rattle.rules.specs.Words.{word}
 use Rattle.rules.specs.declared.Heading.{Heading}
 use Rattle.rules.specs.declared.Order.{Order}
@@ -50,6 +50,10 @@ roundOver h last os = roundAt h os (auction h last os)
 
 unfoldable pub roundOf : List ℕ → Start → Round
 roundOf ws s = roundOver (headingOf ws) (s .last) (standing (headingOf ws) (ordersOf ws) (s .remaining))
+
+-- A round hands back all 120 fill places together, those from n on being 0.
+abbrev pub fillPlaces : Round → List ℕ
+fillPlaces r = r .fills ++ replicate (mostOrders - length (r .fills)) 0
 
 -- ---- The rounds
 
