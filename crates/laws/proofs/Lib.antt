@@ -1,3 +1,7 @@
 -- Laws that follow from the rules.
 pub mod Best
 pub mod Curves
+pub mod Sums
+pub mod Priority
+pub mod Handed
+pub mod Fills
