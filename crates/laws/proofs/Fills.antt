@@ -13,6 +13,7 @@ use lib.ListN.{length}
 use lib.Seq.{ext-getD}
 use borrow.Author.Tests.{leb-true, le-leb, ltb-true, ltb-false, eqb-true, eqb-false, eq-eqb}
 use Rattle.laws.proofs.Handed.{ahead-more, share-of, shares-sum}
+use Rattle.laws.proofs.Orders.{left, side, el}
 use Rattle.laws.proofs.Priority.{side-is, side-same, side-sym, first-side, first-irrefl, first-total, first-eligible}
 use Rattle.laws.proofs.Sums.{last-or-before, sum-more, sum-most}
 use Rattle.rules.proofs.Grid.{both}
@@ -20,7 +21,7 @@ use Rattle.rules.proofs.Lists.{length-listed, getD-listed}
 use Rattle.rules.proofs.Scan.{largest-ge, largest-passes}
 use Rattle.rules.proofs.Sums.{sum-same, sum-le}
 use Rattle.rules.specs.AuctionPrice.{Auction}
-use Rattle.rules.specs.Fills.{eligible, rankedBefore, fillOf, total, FilledCompletely, Lawful, Largest, offered, ahead, share, unsplit, reaches, largestTotal, fillsOf}
+use Rattle.rules.specs.Fills.{rankedBefore, fillOf, total, FilledCompletely, Lawful, Largest, offered, ahead, share, unsplit, reaches, largestTotal, fillsOf}
 use Rattle.rules.specs.Limits.{sameSide, numbered}
 use Rattle.rules.specs.Lists.{everyTo, largestTo}
 use Rattle.rules.specs.Sheet.{D, H}
@@ -38,12 +39,12 @@ every-at P (suc n) k e l = go (last-or-before l) (every-at P n k (both {a = ever
     go (inl q) before = rw q (both {a = everyTo P n} e .1)
     go (inr m) before = before m
 
-every-from : (P : ℕ → Bool) (n : ℕ) → ((k : ℕ) → k < n → P k ≡ true) → everyTo P n ≡ true
+pub every-from : (P : ℕ → Bool) (n : ℕ) → ((k : ℕ) → k < n → P k ≡ true) → everyTo P n ≡ true
 unfolding everyTo
 every-from P zero all = refl
 every-from P (suc n) all = rw (every-from P n (λ k l. all k (omega arith)), all n (omega arith))
 
-or-right : (t : Bool) {u : Bool} → u ≡ true → (t || u) ≡ true
+pub or-right : (t : Bool) {u : Bool} → u ≡ true → (t || u) ≡ true
 or-right true e = refl
 or-right false e = e
 
@@ -52,7 +53,7 @@ either true e = inl refl
 either false e = inr e
 
 -- by a test of a number against another, with what it tells
-equal-or-not : (x y : ℕ) → (x ≡ y) ⊎ (x ≡ y → ⊥)
+pub equal-or-not : (x y : ℕ) → (x ≡ y) ⊎ (x ≡ y → ⊥)
 equal-or-not x y = go (eqb x y) refl
   where
     go : (t : Bool) → eqb x y ≡ t → (x ≡ y) ⊎ (x ≡ y → ⊥)
@@ -62,15 +63,6 @@ equal-or-not x y = go (eqb x y) refl
 module _ (h : Heading) (a : Auction) (os : List Standing) (band : D h ≤ H h) where
   abbrev n : ℕ
   n = length os
-
-  abbrev el : ℕ → Bool
-  el k = eligible h a (numbered os k)
-
-  abbrev r : ℕ → ℕ
-  r k = numbered os k .remaining .0
-
-  abbrev side : ℕ → Side
-  side k = numbered os k .side
 
   abbrev before : ℕ → ℕ → Bool
   before i k = rankedBefore h os i k
@@ -82,7 +74,7 @@ module _ (h : Heading) (a : Auction) (os : List Standing) (band : D h ≤ H h) w
     f k = fillOf fills k
 
     -- only eligible orders are filled
-    not-eligible : (k : ℕ) → k < n → el k ≡ false → f k ≡ 0
+    not-eligible : (k : ℕ) → k < n → el h a os k ≡ false → f k ≡ 0
     not-eligible k l e = go (f k) refl
       where
         go : (x : ℕ) → f k ≡ x → f k ≡ 0
@@ -91,67 +83,69 @@ module _ (h : Heading) (a : Auction) (os : List Standing) (band : D h ≤ H h) w
 
     -- below one not filled completely nobody gets anything
     after-nothing : (k j : ℕ) → k < n → j < n → (FilledCompletely os fills k → ⊥) → before k j ≡ true → f j ≡ 0
-    after-nothing k j l m short b = go (el j) refl
+    after-nothing k j l m short b = go (el h a os j) refl
       where
-        go : (t : Bool) → el j ≡ t → f j ≡ 0
+        go : (t : Bool) → el h a os j ≡ t → f j ≡ 0
         go true e = lawful .F2 k j l m e b short
         go false e = not-eligible j m e
 
     -- above one that gets something everybody is filled completely
-    above-full : (k j : ℕ) → k < n → j < n → el k ≡ true → 0 < f k → before j k ≡ true → f j ≡ r j
-    above-full k j l m e some b = go (equal-or-not (f j) (r j))
+    above-full : (k j : ℕ) → k < n → j < n → el h a os k ≡ true → 0 < f k → before j k ≡ true → f j ≡ left os j
+    above-full k j l m e some b = go (equal-or-not (f j) (left os j))
       where
-        go : (f j ≡ r j) ⊎ (f j ≡ r j → ⊥) → f j ≡ r j
+        go : (f j ≡ left os j) ⊎ (f j ≡ left os j → ⊥) → f j ≡ left os j
         go (inl q) = q
         go (inr short) = absurd (omega (arith, lawful .F2 j k m l e b short))
 
     -- the total is at most what is ahead of an order not filled completely, and its fill
-    total-most : (k : ℕ) → k < n → el k ≡ true → (FilledCompletely os fills k → ⊥)
-        → total (side k) os fills ≤ ahead h a os k + f k
+    total-most : (k : ℕ) → k < n → el h a os k ≡ true → (FilledCompletely os fills k → ⊥)
+        → total (side os k) os fills ≤ ahead h a os k + f k
     unfolding total ahead
     total-most k l e short =
-        sum-most _ _ n k (f k) (λ j m other. part j m other (sameSide (side k) (side j)) refl) l
-        (own (sameSide (side k) (side k)))
+        sum-most _ _ n k (f k) (λ j m other. part j m other (sameSide (side os k) (side os j)) refl) l
+        (own (sameSide (side os k) (side os k)))
       where
-        own : (t : Bool) → cond t (f k) 0 ≤ cond (el k && before k k) (r k) 0 + f k
+        own : (t : Bool) → cond t (f k) 0 ≤ cond (el h a os k && before k k) (left os k) 0 + f k
         own true = omega arith
         own false = zero-le
 
-        ranked : (j : ℕ) → j < n → (before j k ≡ true) ⊎ (before k j ≡ true) → f j ≤ cond (el j && before j k) (r j) 0
+        ranked : (j : ℕ) → j < n → (before j k ≡ true) ⊎ (before k j ≡ true)
+            → f j ≤ cond (el h a os j && before j k) (left os j) 0
         ranked j m (inl b) =
             rw (first-eligible h a (numbered os j) (numbered os k) j k band b e, b) (lawful .F1-within j m)
         ranked j m (inr b) = rw (after-nothing k j l m short b) zero-le
 
-        part : (j : ℕ) → j < n → (j ≡ k → ⊥) → (t : Bool) → sameSide (side k) (side j) ≡ t
-            → cond t (f j) 0 ≤ cond (el j && before j k) (r j) 0
+        part : (j : ℕ) → j < n → (j ≡ k → ⊥) → (t : Bool) → sameSide (side os k) (side os j) ≡ t
+            → cond t (f j) 0 ≤ cond (el h a os j && before j k) (left os j) 0
         part j m other true q =
-            ranked j m (first-total h (numbered os j) (numbered os k) j k (side-sym (side k) (side j) q) other)
+            ranked j m (first-total h (numbered os j) (numbered os k) j k (side-sym (side os k) (side os j) q) other)
         part j m other false q = zero-le
 
     -- it is at least what is ahead of an order that gets something, and its fill
-    total-least : (k : ℕ) → k < n → el k ≡ true → 0 < f k → ahead h a os k + f k ≤ total (side k) os fills
+    total-least : (k : ℕ) → k < n → el h a os k ≡ true → 0 < f k → ahead h a os k + f k ≤ total (side os k) os fills
     unfolding total ahead
-    total-least k l e some = sum-more _ _ n k (f k) (λ j m. part j m (el j) (before j k) refl) l (own (before k k) refl)
+    total-least k l e some = sum-more _ _ n k (f k) (λ j m. part j m (el h a os j) (before j k) refl) l (own (before k k) refl)
       where
-        own : (t : Bool) → before k k ≡ t → cond (el k && t) (r k) 0 + f k ≤ cond (sameSide (side k) (side k)) (f k) 0
+        own : (t : Bool) → before k k ≡ t
+            → cond (el h a os k && t) (left os k) 0 + f k ≤ cond (sameSide (side os k) (side os k)) (f k) 0
         own true q = absurd (first-irrefl h (numbered os k) k q)
-        own false q = rw (e, side-same (side k)) (omega arith)
+        own false q = rw (e, side-same (side os k)) (omega arith)
 
         part : (j : ℕ) → j < n → (t u : Bool) → before j k ≡ u
-            → cond (t && u) (r j) 0 ≤ cond (sameSide (side k) (side j)) (f j) 0
+            → cond (t && u) (left os j) 0 ≤ cond (sameSide (side os k) (side os j)) (f j) 0
         part j m true true b =
-            rw (side-sym (side j) (side k) (first-side h (numbered os j) (numbered os k) j k b), above-full k j l m e some b)
-            (le-refl _)
+            let q = side-sym (side os j) (side os k) (first-side h (numbered os j) (numbered os k) j k b) in
+            rw (q, above-full k j l m e some b) (le-refl _)
         part j m true false b = zero-le
         part j m false u b = zero-le
 
     -- so each order has its share of its side's total
-    fill-is-share : (k : ℕ) → k < n → f k ≡ share h a os (total (side k) os fills) k
+    fill-is-share : (k : ℕ) → k < n → f k ≡ share h a os (total (side os k) os fills) k
     unfolding share
-    fill-is-share k l = go (el k) refl (f k) refl (equal-or-not (f k) (r k))
+    fill-is-share k l = go (el h a os k) refl (f k) refl (equal-or-not (f k) (left os k))
       where
-        go : (t : Bool) → el k ≡ t → (x : ℕ) → f k ≡ x → (f k ≡ r k) ⊎ (f k ≡ r k → ⊥)
-            → f k ≡ cond t (min (r k) (total (side k) os fills - ahead h a os k)) 0
+        go : (t : Bool) → el h a os k ≡ t → (x : ℕ) → f k ≡ x → (f k ≡ left os k) ⊎ (f k ≡ left os k → ⊥)
+            → f k ≡ cond t (min (left os k) (total (side os k) os fills - ahead h a os k)) 0
         go false e x q full = not-eligible k l e
         go true e zero q (inl full) = omega arith
         go true e (suc x) q (inl full) = omega (arith, total-least k l e (omega arith))
@@ -162,34 +156,34 @@ module _ (h : Heading) (a : Auction) (os : List Standing) (band : D h ≤ H h) w
     -- a side's total is no more than it has
     total-offered : (s : Side) → total s os fills ≤ offered h a os s
     unfolding total offered
-    total-offered s = sum-le _ _ n (λ j m. part j m (sameSide s (side j)) (el j) refl)
+    total-offered s = sum-le _ _ n (λ j m. part j m (sameSide s (side os j)) (el h a os j) refl)
       where
-        part : (j : ℕ) → j < n → (t u : Bool) → el j ≡ u → cond t (f j) 0 ≤ cond (t && u) (r j) 0
+        part : (j : ℕ) → j < n → (t u : Bool) → el h a os j ≡ u → cond t (f j) 0 ≤ cond (t && u) (left os j) 0
         part j m true true e = lawful .F1-within j m
         part j m true false e = rw (not-eligible j m e) (le-refl 0)
         part j m false u e = zero-le
 
     -- and splits no all-or-none order,
-    fill-unsplit : (s : Side) (k : ℕ) → k < n → sameSide s (side k) ≡ true → unsplit h a os (total s os fills) k ≡ true
+    fill-unsplit : (s : Side) (k : ℕ) → k < n → sameSide s (side os k) ≡ true → unsplit h a os (total s os fills) k ≡ true
     fill-unsplit s k l q = rw (← shared) (go (numbered os k .«all_or_none») refl)
       where
         shared : f k ≡ share h a os (total s os fills) k
-        shared = fill-is-share k l ∙ ap (λ (t : Side). share h a os (total t os fills) k) (sym (side-is s (side k) q))
+        shared = fill-is-share k l ∙ ap (λ (t : Side). share h a os (total t os fills) k) (sym (side-is s (side os k) q))
 
-        go : (t : Bool) → numbered os k .«all_or_none» ≡ t → (not t || (eqb (f k) (r k) || eqb (f k) 0)) ≡ true
+        go : (t : Bool) → numbered os k .«all_or_none» ≡ t → (not t || (eqb (f k) (left os k) || eqb (f k) 0)) ≡ true
         go false e = refl
         go true e = whole (lawful .F3 k l e)
           where
-            whole : FilledCompletely os fills k ⊎ (f k ≡ 0) → (eqb (f k) (r k) || eqb (f k) 0) ≡ true
-            whole (inl full) = rw (eq-eqb (f k) (r k) full)
-            whole (inr none) = or-right (eqb (f k) (r k)) (eq-eqb (f k) 0 none)
+            whole : FilledCompletely os fills k ⊎ (f k ≡ 0) → (eqb (f k) (left os k) || eqb (f k) 0) ≡ true
+            whole (inl full) = rw (eq-eqb (f k) (left os k) full)
+            whole (inr none) = or-right (eqb (f k) (left os k)) (eq-eqb (f k) 0 none)
 
     -- so the side can reach its total
     total-reached : (s : Side) → reaches h a os s (total s os fills) ≡ true
     unfolding reaches
-    total-reached s = rw (le-leb _ _ (total-offered s), every-from _ n (λ k l. whole k l (sameSide s (side k)) refl))
+    total-reached s = rw (le-leb _ _ (total-offered s), every-from _ n (λ k l. whole k l (sameSide s (side os k)) refl))
       where
-        whole : (k : ℕ) → k < n → (t : Bool) → sameSide s (side k) ≡ t
+        whole : (k : ℕ) → k < n → (t : Bool) → sameSide s (side os k) ≡ t
             → (not t || unsplit h a os (total s os fills) k) ≡ true
         whole k l false q = refl
         whole k l true q = fill-unsplit s k l q
@@ -205,9 +199,9 @@ module _ (h : Heading) (a : Auction) (os : List Standing) (band : D h ≤ H h) w
   -- of nothing everybody gets nothing, and a side can reach it
   share-none : (k : ℕ) → share h a os 0 k ≡ 0
   unfolding share
-  share-none k = go (el k)
+  share-none k = go (el h a os k)
     where
-      go : (t : Bool) → cond t (min (r k) (0 - ahead h a os k)) 0 ≡ 0
+      go : (t : Bool) → cond t (min (left os k) (0 - ahead h a os k)) 0 ≡ 0
       go true = omega arith
       go false = refl
 
@@ -215,11 +209,11 @@ module _ (h : Heading) (a : Auction) (os : List Standing) (band : D h ≤ H h) w
   unfolding reaches
   reaches-none s = rw (le-leb 0 (offered h a os s) zero-le, every-from _ n (λ k l. whole k))
     where
-      whole : (k : ℕ) → (not (sameSide s (side k)) || unsplit h a os 0 k) ≡ true
+      whole : (k : ℕ) → (not (sameSide s (side os k)) || unsplit h a os 0 k) ≡ true
       whole k =
-          or-right (not (sameSide s (side k)))
+          or-right (not (sameSide s (side os k)))
           (or-right (not (numbered os k .«all_or_none»))
-          (or-right (eqb (share h a os 0 k) (r k)) (eq-eqb (share h a os 0 k) 0 (share-none k))))
+          (or-right (eqb (share h a os 0 k) (left os k)) (eq-eqb (share h a os 0 k) 0 (share-none k))))
 
   -- both sides can reach the largest total
   largest-reached : (s : Side) → reaches h a os s (largestTotal h a os) ≡ true
@@ -238,15 +232,15 @@ module _ (h : Heading) (a : Auction) (os : List Standing) (band : D h ≤ H h) w
   unfolding reaches
   reached-offered s x e = leb-true x (offered h a os s) (both {a = leb x (offered h a os s)} e .0)
 
-  reached-unsplit : (s : Side) (x k : ℕ) → reaches h a os s x ≡ true → k < n → sameSide s (side k) ≡ true
+  reached-unsplit : (s : Side) (x k : ℕ) → reaches h a os s x ≡ true → k < n → sameSide s (side os k) ≡ true
       → unsplit h a os x k ≡ true
   unfolding reaches
   reached-unsplit s x k e l q =
       let each = both {a = leb x (offered h a os s)} e .1 in
-      rw q at (every-at (λ k. not (sameSide s (side k)) || unsplit h a os x k) n k each l)
+      rw q at (every-at (λ k. not (sameSide s (side os k)) || unsplit h a os x k) n k each l)
 
   -- no total that both sides can reach is larger
-  largest-most : (sum : ℕ) → reaches h a os Buy sum ≡ true → reaches h a os Sell sum ≡ true → sum ≤ largestTotal h a os
+  pub largest-most : (sum : ℕ) → reaches h a os Buy sum ≡ true → reaches h a os Sell sum ≡ true → sum ≤ largestTotal h a os
   unfolding largestTotal
   largest-most sum e f =
       largest-ge reached most sum (omega (arith, reached-offered Buy sum e, reached-offered Sell sum f)) (rw (e, f))
@@ -259,7 +253,7 @@ module _ (h : Heading) (a : Auction) (os : List Standing) (band : D h ≤ H h) w
   abbrev fills : List ℕ
   fills = fillsOf h a os
 
-  fill-at : (k : ℕ) → k < n → fillOf fills k ≡ share h a os sum k
+  pub fill-at : (k : ℕ) → k < n → fillOf fills k ≡ share h a os sum k
   unfolding fillsOf
   fill-at k l = getD-listed (share h a os sum) n k 0 l
 
@@ -267,61 +261,62 @@ module _ (h : Heading) (a : Auction) (os : List Standing) (band : D h ≤ H h) w
   unfolding fillsOf
   fills-length = length-listed (share h a os sum) n
 
-  share-within : (k : ℕ) → share h a os sum k ≤ r k
+  share-within : (k : ℕ) → share h a os sum k ≤ left os k
   unfolding share
-  share-within k = go (el k)
+  share-within k = go (el h a os k)
     where
-      go : (t : Bool) → cond t (min (r k) (sum - ahead h a os k)) 0 ≤ r k
+      go : (t : Bool) → cond t (min (left os k) (sum - ahead h a os k)) 0 ≤ left os k
       go true = omega arith
       go false = zero-le
 
-  share-eligible : (k : ℕ) → 0 < share h a os sum k → el k ≡ true
+  share-eligible : (k : ℕ) → 0 < share h a os sum k → el h a os k ≡ true
   unfolding share
-  share-eligible k = go (el k)
+  share-eligible k = go (el h a os k)
     where
-      go : (t : Bool) → 0 < cond t (min (r k) (sum - ahead h a os k)) 0 → t ≡ true
+      go : (t : Bool) → 0 < cond t (min (left os k) (sum - ahead h a os k)) 0 → t ≡ true
       go true some = refl
       go false some = absurd (omega arith)
 
   -- each side's total is the largest total
-  total-is : (s : Side) → total s os fills ≡ sum
+  pub total-is : (s : Side) → total s os fills ≡ sum
   unfolding total
   total-is s =
-      sum-same _ _ n (λ k l. ap (λ (x : ℕ). cond (sameSide s (side k)) x 0) (fill-at k l))
+      sum-same _ _ n (λ k l. ap (λ (x : ℕ). cond (sameSide s (side os k)) x 0) (fill-at k l))
       ∙ shares-sum h a os s sum enough
     where
       enough : sum ≤ offered h a os s
       enough = reached-offered s sum (largest-reached s)
 
   -- F2: whoever stands below one with less than its remainder has as much ahead of it as there is
-  below-short : (above k : ℕ) → above < n → k < n → el k ≡ true → before above k ≡ true
+  below-short : (above k : ℕ) → above < n → k < n → el h a os k ≡ true → before above k ≡ true
       → (FilledCompletely os fills above → ⊥) → fillOf fills k ≡ 0
   below-short above k l m e b short =
-      let e₁ : el above ≡ true = first-eligible h a (numbered os above) (numbered os k) above k band b e in
-      let less : share h a os sum above ≡ r above → ⊥ = λ q. short (fill-at above l ∙ q) in
-      let q₁ : share h a os sum above ≡ min (r above) (sum - ahead h a os above) = share-of h a os sum above e₁ in
-      let q₂ : share h a os sum k ≡ min (r k) (sum - ahead h a os k) = share-of h a os sum k e in
+      let e₁ : el h a os above ≡ true = first-eligible h a (numbered os above) (numbered os k) above k band b e in
+      let less : share h a os sum above ≡ left os above → ⊥ = λ q. short (fill-at above l ∙ q) in
+      let q₁ : share h a os sum above ≡ min (left os above) (sum - ahead h a os above) = share-of h a os sum above e₁ in
+      let q₂ : share h a os sum k ≡ min (left os k) (sum - ahead h a os k) = share-of h a os sum k e in
       fill-at k m ∙ q₂ ∙ nothing (strictly less q₁) (ahead-more h a os above k l e₁ b)
     where
-      strictly : (share h a os sum above ≡ r above → ⊥) → share h a os sum above ≡ min (r above) (sum - ahead h a os above)
-          → sum < ahead h a os above + r above
-      strictly less q = go (ltb sum (ahead h a os above + r above)) refl
+      strictly : (share h a os sum above ≡ left os above → ⊥)
+          → share h a os sum above ≡ min (left os above) (sum - ahead h a os above)
+          → sum < ahead h a os above + left os above
+      strictly less q = go (ltb sum (ahead h a os above + left os above)) refl
         where
-          go : (t : Bool) → ltb sum (ahead h a os above + r above) ≡ t → sum < ahead h a os above + r above
+          go : (t : Bool) → ltb sum (ahead h a os above + left os above) ≡ t → sum < ahead h a os above + left os above
           go true t = ltb-true _ _ t
-          go false t = absurd (less (q ∙ omega (arith, ltb-false sum (ahead h a os above + r above) t)))
+          go false t = absurd (less (q ∙ omega (arith, ltb-false sum (ahead h a os above + left os above) t)))
 
-      nothing : sum < ahead h a os above + r above → ahead h a os above + r above ≤ ahead h a os k
-          → min (r k) (sum - ahead h a os k) ≡ 0
+      nothing : sum < ahead h a os above + left os above → ahead h a os above + left os above ≤ ahead h a os k
+          → min (left os k) (sum - ahead h a os k) ≡ 0
       nothing l m = omega arith
 
   -- F3: of a total that a side can reach
   all-or-nothing : (k : ℕ) → k < n → numbered os k .«all_or_none» ≡ true → FilledCompletely os fills k ⊎ (fillOf fills k ≡ 0)
   all-or-nothing k l e =
-      let whole = reached-unsplit (side k) sum k (largest-reached (side k)) l (side-same (side k)) in
-      go (either (eqb (share h a os sum k) (r k)) (rw e at whole))
+      let whole = reached-unsplit (side os k) sum k (largest-reached (side os k)) l (side-same (side os k)) in
+      go (either (eqb (share h a os sum k) (left os k)) (rw e at whole))
     where
-      go : (eqb (share h a os sum k) (r k) ≡ true) ⊎ (eqb (share h a os sum k) 0 ≡ true)
+      go : (eqb (share h a os sum k) (left os k) ≡ true) ⊎ (eqb (share h a os sum k) 0 ≡ true)
           → FilledCompletely os fills k ⊎ (fillOf fills k ≡ 0)
       go (inl q) = inl (fill-at k l ∙ eqb-true _ _ q)
       go (inr q) = inr (fill-at k l ∙ eqb-true _ _ q)
@@ -341,7 +336,7 @@ module _ (h : Heading) (a : Auction) (os : List Standing) (band : D h ≤ H h) w
   same-total others long lawful same =
       ext-getD 0 others fills (long ∙ sym fills-length)
       (λ k l. let m : k < n = omega arith in
-      fill-is-share others lawful k m ∙ ap (λ (x : ℕ). share h a os x k) (same (side k)) ∙ sym (fill-at k m))
+      fill-is-share others lawful k m ∙ ap (λ (x : ℕ). share h a os x k) (same (side os k)) ∙ sym (fill-at k m))
 
   -- the fills are those that the document means
   pub fills-largest : Largest h a os fills

@@ -2,6 +2,9 @@
 pub mod Best
 pub mod Curves
 pub mod Sums
+pub mod Orders
 pub mod Priority
 pub mod Handed
 pub mod Fills
+pub mod UsesUp
+pub mod Rounds

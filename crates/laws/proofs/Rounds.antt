@@ -1,0 +1,191 @@
+-- No opening is cut short: a round that goes on uses up an order, so the bound of n rounds after the first, by which the rounds
+-- of an opening are defined, is never what ends it.
+use mathlib.Core.Bool.{Bool, true, false, _&&_, cond}
+use mathlib.Core.List.{List, [], _∷_}
+use mathlib.Core.Path.{_≡_, refl, ap, _∙_}
+use Prim.Native.Nat.{ℕ, zero, suc, _+_, _-_, _≤_, _<_, zero-le}
+use native.Mathlib.Nat.{le-refl}
+use native.Mathlib.Omega.{arith}
+use lib.Dec.{ltb, eqb}
+use lib.ListN.{length, getD, length-map}
+use borrow.Author.Tests.{leb-true, ltb-true, ltb-false, eqb-true, lt-ltb}
+use Rattle.laws.proofs.Fills.{total-is}
+use Rattle.laws.proofs.Sums.{sum-more, Passing}
+use Rattle.laws.proofs.UsesUp.{usedUp, uses-up}
+use Rattle.rules.proofs.Grid.{both}
+use Rattle.rules.proofs.Lists.{length-listed, getD-listed}
+use Rattle.rules.proofs.Sums.{sum-le}
+use Rattle.rules.specs.AuctionPrice.{Auction, inBand, auction}
+use Rattle.rules.specs.Fills.{fillOf, total, fillsOf}
+use Rattle.rules.specs.Limits.{numbered, standingBy, standing}
+use Rattle.rules.specs.Lists.{sumTo}
+use Rattle.rules.specs.Opening.{Start, Round, roundAt, roundOf, firstStart, after, goesOn, roundsFrom}
+use Rattle.rules.specs.Sheet.{D, H, orderAt, headingOf, ordersOf}
+use Rattle.rules.specs.declared.Heading.{Heading}
+use Rattle.rules.specs.declared.Order.{Order}
+use Rattle.rules.specs.declared.Side.the-variants.{Buy}
+use Rattle.rules.specs.declared.Standing.{Standing}
+
+-- ---- The orders of a round
+
+pub length-standing : (h : Heading) (orders : List Order) (remaining : List ℕ)
+    → length (standing h orders remaining) ≡ length orders
+unfolding standing standingBy
+length-standing h orders remaining = length-listed _ (length orders)
+
+pub remaining-standing : (h : Heading) (orders : List Order) (remaining : List ℕ) (k : ℕ) → k < length orders
+    → numbered (standing h orders remaining) k .remaining .0 ≡ getD remaining k 0
+unfolding standing standingBy
+remaining-standing h orders remaining k l = ap (λ (o : Standing). o .remaining .0) (getD-listed _ (length orders) k _ l)
+
+-- ---- The orders with pieces left
+
+abbrev one : ℕ → ℕ
+one pieces = cond (ltb 0 pieces) 1 0
+
+pub live : Start → ℕ
+live s = sumTo (λ k. one (getD (s .remaining) k 0)) (length (s .remaining))
+
+one-le : (x : ℕ) → one x ≤ 1
+one-le x = go (ltb 0 x)
+  where
+    go : (t : Bool) → cond t 1 0 ≤ 1
+    go true = le-refl 1
+    go false = zero-le
+
+fewer : (x y : ℕ) → one (x - y) ≤ one x
+fewer x y = go (ltb 0 x) refl (ltb 0 (x - y)) refl
+  where
+    go : (t : Bool) → ltb 0 x ≡ t → (u : Bool) → ltb 0 (x - y) ≡ u → cond u 1 0 ≤ cond t 1 0
+    go true e true f = le-refl 1
+    go true e false f = zero-le
+    go false e true f = absurd (omega (arith, ltb-false 0 x e, ltb-true 0 (x - y) f))
+    go false e false f = le-refl 0
+
+pub length-after : (s : Start) (r : Round) → length (after s r .remaining) ≡ length (s .remaining)
+unfolding after
+length-after s r = length-listed _ (length (s .remaining))
+
+remaining-after : (s : Start) (r : Round) (k : ℕ) → k < length (s .remaining)
+    → getD (after s r .remaining) k 0 ≡ getD (s .remaining) k 0 - fillOf (r .fills) k
+unfolding after
+remaining-after s r k l = getD-listed _ (length (s .remaining)) k 0 l
+
+-- a round in which some order is used up leaves fewer
+live-after : (s : Start) (r : Round) (k : ℕ) → k < length (s .remaining) → 0 < getD (s .remaining) k 0
+    → fillOf (r .fills) k ≡ getD (s .remaining) k 0 → live (after s r) < live s
+unfolding live
+live-after s r k l some full =
+    let less =
+    sum-more (λ j. one (getD (after s r .remaining) j 0)) (λ j. one (getD (s .remaining) j 0)) (length (s .remaining)) k 1
+    each l own in
+    rw (length-after s r) (omega arith)
+  where
+    each : (j : ℕ) → j < length (s .remaining) → one (getD (after s r .remaining) j 0) ≤ one (getD (s .remaining) j 0)
+    each j m = rw (remaining-after s r j m) (fewer (getD (s .remaining) j 0) (fillOf (r .fills) j))
+
+    own : one (getD (after s r .remaining) k 0) + 1 ≤ one (getD (s .remaining) k 0)
+    own =
+        let none : getD (after s r .remaining) k 0 ≡ 0 = remaining-after s r k l ∙ omega arith in
+        rw (none, lt-ltb 0 (getD (s .remaining) k 0) some) (le-refl 1)
+
+ones : (m : ℕ) → sumTo (λ j. 1) m ≡ m
+unfolding sumTo
+ones zero = refl
+ones (suc m) = rw (ones m) (omega arith)
+
+few-live : (s : Start) → live s ≤ length (s .remaining)
+unfolding live
+few-live s =
+    let most =
+    sum-le (λ k. one (getD (s .remaining) k 0)) (λ k. 1) (length (s .remaining)) (λ j l. one-le (getD (s .remaining) j 0)) in
+    omega (arith, ones (length (s .remaining)))
+
+-- ---- The rounds of an opening
+
+pub count-orders : (ws : List ℕ) → length (ordersOf ws) ≡ headingOf ws .count
+unfolding ordersOf
+count-orders ws = length-listed (orderAt ws) (headingOf ws .count)
+
+-- the last of some rounds does not go on
+pub EndsThere : Heading → List Round → Type 0
+EndsThere h [] = Unit {0}
+EndsThere h (r ∷ []) = goesOn h r ≡ false
+EndsThere h (r ∷ q ∷ rs) = EndsThere h (q ∷ rs)
+
+module _ (ws : List ℕ) (band : D (headingOf ws) ≤ H (headingOf ws)) where
+  abbrev h : Heading
+  h = headingOf ws
+
+  abbrev n : ℕ
+  n = length (ordersOf ws)
+
+  abbrev os : Start → List Standing
+  os s = standing h (ordersOf ws) (s .remaining)
+
+  abbrev auctionFrom : Start → Auction
+  auctionFrom s = auction h (s .last) (os s)
+
+  -- a round that goes on uses up an order,
+  round-uses-up : (s : Start) → goesOn h (roundOf ws s) ≡ true
+      → Passing (usedUp h (auctionFrom s) (os s) band) (length (os s))
+  unfolding roundOf roundAt goesOn
+  round-uses-up s goes =
+      let traded = both {a = eqb (auctionFrom s .situation) 0 && inBand h (auctionFrom s .price)} goes .1 in
+      uses-up h (auctionFrom s) (os s) band
+      (rw (total-is h (auctionFrom s) (os s) band Buy) at
+      (leb-true 1 (total Buy (os s) (fillsOf h (auctionFrom s) (os s))) traded))
+
+  -- and so leaves fewer with pieces
+  pub leaves-fewer : (s : Start) → length (s .remaining) ≡ n → goesOn h (roundOf ws s) ≡ true
+      → live (after s (roundOf ws s)) < live s
+  unfolding roundOf roundAt
+  leaves-fewer s long goes =
+      let p = round-uses-up s goes in
+      let k = p .number in
+      let size : length (os s) ≡ n = length-standing h (ordersOf ws) (s .remaining) in
+      let below : k < length (os s) = p .below in
+      let left : numbered (os s) k .remaining .0 ≡ getD (s .remaining) k 0 =
+      remaining-standing h (ordersOf ws) (s .remaining) k (omega arith) in
+      let t = both {a = ltb 0 (numbered (os s) k .remaining .0)} (p .passes) in
+      live-after s (roundOf ws s) k (omega arith)
+      (rw left at (ltb-true 0 (numbered (os s) k .remaining .0) (t .0)))
+      (eqb-true (fillOf (fillsOf h (auctionFrom s) (os s)) k) (numbered (os s) k .remaining .0) (t .1) ∙ left)
+
+  -- the rounds that follow a round end where they end by themselves
+  ends-after : (more : ℕ) (s : Start) (r : Round) → EndsThere h (roundsFrom (roundOf ws) h more s)
+      → EndsThere h (r ∷ roundsFrom (roundOf ws) h more s)
+  unfolding roundsFrom EndsThere
+  ends-after zero s r e = e
+  ends-after (suc more) s r e = e
+
+  -- so where no more orders have pieces than rounds may follow, the last round does not go on
+  rounds-end : (more : ℕ) (s : Start) → length (s .remaining) ≡ n → live s ≤ more
+      → EndsThere h (roundsFrom (roundOf ws) h more s)
+  unfolding roundsFrom EndsThere
+  rounds-end zero s long few = go (goesOn h (roundOf ws s)) refl
+    where
+      go : (t : Bool) → goesOn h (roundOf ws s) ≡ t → goesOn h (roundOf ws s) ≡ false
+      go true e = absurd (omega (arith, leaves-fewer s long e))
+      go false e = e
+  rounds-end (suc more) s long few =
+      go (goesOn h (roundOf ws s)) refl
+      (λ e.
+      rounds-end more (after s (roundOf ws s)) (length-after s (roundOf ws s) ∙ long)
+      (omega (arith, leaves-fewer s long e)))
+    where
+      go : (t : Bool) → goesOn h (roundOf ws s) ≡ t
+          → (goesOn h (roundOf ws s) ≡ true → EndsThere h (roundsFrom (roundOf ws) h more (after s (roundOf ws s))))
+          → EndsThere h (roundOf ws s ∷ cond t (roundsFrom (roundOf ws) h more (after s (roundOf ws s))) [])
+      go true e rest = ends-after more (after s (roundOf ws s)) (roundOf ws s) (rest e)
+      go false e rest = e
+
+  first-long : length (firstStart ws .remaining) ≡ n
+  unfolding firstStart
+  first-long = simp length-map
+
+  -- no opening is cut short: its last round is one after which it does not go on
+  pub opening-ends : EndsThere h (roundsFrom (roundOf ws) h (h .count) (firstStart ws))
+  opening-ends =
+      rounds-end (h .count) (firstStart ws) first-long
+      (omega (arith, few-live (firstStart ws), first-long, count-orders ws))
