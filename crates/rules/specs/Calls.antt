@@ -16,8 +16,8 @@ use Rattle.rules.specs.declared.Standing.{Standing}
 use Rattle.rules.specs.declared.Terms.{Terms}
 use Rattle.rules.specs.declared.Terms.the-variants.{WithoutLimit, Limited, Stepper}
 
--- Calls on a sheet: check it; limit in force of Stepper k; demand, supply and volume at p; one first round, and the opening,
--- with the number of words of the space lent. The three band calls.
+-- Calls on a sheet: check it; limit in force of Stepper k; demand, supply and volume at p (both of these in the first round); one
+-- first round; the opening. The last two are given the number of words of the space. Then the three band calls.
 pub data Call : Type 0 where
   check : List ℕ → Call
   stepperLimit : List ℕ → ℕ → Call
@@ -49,19 +49,20 @@ curvesOf v = v .demand ∷ v .supply ∷ volume v ∷ []
 unfoldable pub firstStanding : List ℕ → List Standing
 firstStanding ws = standing (headingOf ws) (ordersOf ws) (firstStart ws .remaining)
 
--- What a call answers, from how the orders of a sheet stand in the first round, and the round of a sheet from a start.
+-- What a call answers, where first gives the orders of a sheet as they stand in its first round, and round the round of a sheet
+-- from a start.
 unfoldable pub answerBy : (List ℕ → List Standing) → (List ℕ → Start → Round) → Call → Answer
-answerBy first roundOf (check ws) = checkSheet ws
-answerBy first roundOf (stepperLimit ws k) = onSheet ws (row 9 (not (isStepper ws k))) (numbered (first ws) k .limit .0 ∷ [])
-answerBy first roundOf (curvesAt ws p) =
+answerBy first round (check ws) = checkSheet ws
+answerBy first round (stepperLimit ws k) = onSheet ws (row 9 (not (isStepper ws k))) (numbered (first ws) k .limit .0 ∷ [])
+answerBy first round (curvesAt ws p) =
     onSheet ws (row 9 (not (onGrid p))) (curvesOf (level (headingOf ws) (first ws) p))
-answerBy first roundOf (firstRound ws space) =
-    onSheet ws (row 10 (ltb space (roundSpace (headingOf ws .count)))) (roundWords (roundOf ws (firstStart ws)))
-answerBy first roundOf (opening ws space) =
-    onSheet ws (row 10 (ltb space (openingSpace (headingOf ws .count)))) (openingBy (roundOf ws) ws)
-answerBy first roundOf (indicative D H traded closing auction) = indicativePrice D H traded closing auction
-answerBy first roundOf (next code I) = nextBand code I
-answerBy first roundOf (widen D H side) = widenedBand D H side
+answerBy first round (firstRound ws space) =
+    onSheet ws (row 10 (ltb space (roundSpace (headingOf ws .count)))) (roundWords (round ws (firstStart ws)))
+answerBy first round (opening ws space) =
+    onSheet ws (row 10 (ltb space (openingSpace (headingOf ws .count)))) (openingBy (round ws) ws)
+answerBy first round (indicative D H traded closing auction) = indicativePrice D H traded closing auction
+answerBy first round (next code I) = nextBand code I
+answerBy first round (widen D H side) = widenedBand D H side
 
 -- What the rules answer to a call.
 unfoldable pub answer : Call → Answer
