@@ -1,6 +1,6 @@
 -- The best price with a property, for a side given as parameter: what the scan of the grid finds, and how to recognise it.
 -- A price has a place, counted from the side's worst price on; on that scale higher is better for both sides.
-use mathlib.Core.Bool.{Bool, true, false}
+use mathlib.Core.Bool.{Bool, true, false, false≢true}
 use mathlib.Core.Option.{none, some}
 use mathlib.Core.Path.{_≡_, refl, sym, ap, _∙_}
 use Prim.Native.Nat.{ℕ, zero, suc, _+_, _-_, _≤_, _<_}
@@ -57,10 +57,6 @@ price-at : (s : Side) (k : ℕ) → 1 ≤ k → priceAt s k ≡ some (nth s k)
 price-at s zero h = absurd (omega arith)
 price-at s (suc k) h = refl
 
--- a test that fails is not passed
-not-both : {t : Bool} → t ≡ true → t ≡ false → ⊥
-not-both e f = let z : _≡_ {A = ℕ} 0 1 = cc in omega arith
-
 module _ (s : Side) (P : ℕ → Bool) where
   -- the last place whose price passes, 0 where there is none
   abbrev last : ℕ
@@ -85,9 +81,9 @@ module _ (s : Side) (P : ℕ → Bool) where
       beyond k e true t = omega (arith, leb-true (suc k) (place s p) t)
       beyond k e false t =
           let on = last-on k e in
-          absurd (not-both (last-passes k e)
-          (b .only (nth s (suc k)) (nth-on s (suc k) on)
-          (further s p (suc k) (b .on) (on .1) (leb-false (suc k) (place s p) t))))
+          let fails = b .only (nth s (suc k)) (nth-on s (suc k) on)
+          (further s p (suc k) (b .on) (on .1) (leb-false (suc k) (place s p) t)) in
+          absurd (false≢true (sym fails ∙ last-passes k e))
 
       at-most : (k : ℕ) → last ≡ k → last ≤ place s p
       at-most zero e = omega (arith, place-on s p (b .on))
@@ -99,4 +95,4 @@ module _ (s : Side) (P : ℕ → Bool) where
       nowhere : (k : ℕ) → last ≡ k → last ≡ 0
       nowhere zero e = e
       nowhere (suc k) e =
-          absurd (not-both (last-passes k e) (fails (nth s (suc k)) (nth-on s (suc k) (last-on k e))))
+          absurd (false≢true (sym (fails (nth s (suc k)) (nth-on s (suc k) (last-on k e))) ∙ last-passes k e))

@@ -6,12 +6,13 @@ use mathlib.Core.List.{List}
 use mathlib.Core.Logic.{_⊎_, inl, inr, _≢_}
 use mathlib.Core.Path.{_≡_, refl, sym, ap, _∙_}
 use Prim.Native.Nat.{ℕ, zero, suc, _+_, _-_, _≤_, _<_, min, zero-le}
+use native.Mathlib.Decide.{ℕ-discrete}
 use native.Mathlib.Nat.{le-refl, eq-or-lt-of-le}
 use native.Mathlib.Omega.{arith}
 use lib.Dec.{leb, ltb, eqb}
 use lib.ListN.{length}
 use lib.Seq.{ext-getD}
-use borrow.Author.Tests.{leb-true, le-leb, ltb-true, ltb-false, eqb-true, eqb-false, eq-eqb}
+use borrow.Author.Tests.{leb-true, le-leb, ltb-true, ltb-false, eqb-true, eq-eqb}
 use Rattle.laws.proofs.Handed.{ahead-more, share-of, shares-sum}
 use Rattle.laws.proofs.Orders.{left, side, el}
 use Rattle.laws.proofs.Priority.{side-is, side-same, side-sym, first-side, first-irrefl, first-total, first-eligible}
@@ -52,14 +53,6 @@ either : (t : Bool) {u : Bool} → (t || u) ≡ true → (t ≡ true) ⊎ (u ≡
 either true e = inl refl
 either false e = inr e
 
--- by a test of a number against another, with what it tells
-pub equal-or-not : (x y : ℕ) → (x ≡ y) ⊎ (x ≡ y → ⊥)
-equal-or-not x y = go (eqb x y) refl
-  where
-    go : (t : Bool) → eqb x y ≡ t → (x ≡ y) ⊎ (x ≡ y → ⊥)
-    go true e = inl (eqb-true x y e)
-    go false e = inr (eqb-false x y e)
-
 module _ (h : Heading) (a : Auction) (os : List Standing) (band : D h ≤ H h) where
   abbrev n : ℕ
   n = length os
@@ -91,11 +84,11 @@ module _ (h : Heading) (a : Auction) (os : List Standing) (band : D h ≤ H h) w
 
     -- above one that gets something everybody is filled completely
     above-full : (k j : ℕ) → k < n → j < n → el h a os k ≡ true → 0 < f k → before j k ≡ true → f j ≡ left os j
-    above-full k j l m e some b = go (equal-or-not (f j) (left os j))
+    above-full k j l m e some b = go (ℕ-discrete (f j) (left os j))
       where
-        go : (f j ≡ left os j) ⊎ (f j ≡ left os j → ⊥) → f j ≡ left os j
-        go (inl q) = q
-        go (inr short) = absurd (omega (arith, lawful .F2 j k m l e b short))
+        go : Dec (f j ≡ left os j) → f j ≡ left os j
+        go (yes q) = q
+        go (no short) = absurd (omega (arith, lawful .F2 j k m l e b short))
 
     -- the total is at most what is ahead of an order not filled completely, and its fill
     total-most : (k : ℕ) → k < n → el h a os k ≡ true → (FilledCompletely os fills k → ⊥)
@@ -142,15 +135,15 @@ module _ (h : Heading) (a : Auction) (os : List Standing) (band : D h ≤ H h) w
     -- so each order has its share of its side's total
     fill-is-share : (k : ℕ) → k < n → f k ≡ share h a os (total (side os k) os fills) k
     unfolding share
-    fill-is-share k l = go (el h a os k) refl (f k) refl (equal-or-not (f k) (left os k))
+    fill-is-share k l = go (el h a os k) refl (f k) refl (ℕ-discrete (f k) (left os k))
       where
-        go : (t : Bool) → el h a os k ≡ t → (x : ℕ) → f k ≡ x → (f k ≡ left os k) ⊎ (f k ≡ left os k → ⊥)
+        go : (t : Bool) → el h a os k ≡ t → (x : ℕ) → f k ≡ x → Dec (f k ≡ left os k)
             → f k ≡ cond t (min (left os k) (total (side os k) os fills - ahead h a os k)) 0
         go false e x q full = not-eligible k l e
-        go true e zero q (inl full) = omega arith
-        go true e (suc x) q (inl full) = omega (arith, total-least k l e (omega arith))
-        go true e zero q (inr short) = omega (arith, total-most k l e short)
-        go true e (suc x) q (inr short) =
+        go true e zero q (yes full) = omega arith
+        go true e (suc x) q (yes full) = omega (arith, total-least k l e (omega arith))
+        go true e zero q (no short) = omega (arith, total-most k l e short)
+        go true e (suc x) q (no short) =
             omega (arith, total-least k l e (omega arith), total-most k l e short, lawful .F1-within k l)
 
     -- a side's total is no more than it has

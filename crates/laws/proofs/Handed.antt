@@ -1,7 +1,7 @@
 -- What a side hands out of a total by priority adds up to that total, as far as it has the pieces. Orders are counted off by
 -- the number of those ranked before them: up to each number what is handed out is the smaller of the total and what the
 -- orders up to there have.
-use mathlib.Core.Bool.{Bool, true, false, _&&_, cond, false≢true}
+use mathlib.Core.Bool.{Bool, true, false, _&&_, cond, and-false, false≢true}
 use mathlib.Core.List.{List}
 use mathlib.Core.Logic.{_⊎_, inl, inr}
 use mathlib.Core.Path.{_≡_, refl, sym, ap, _∙_}
@@ -13,7 +13,7 @@ use lib.ListN.{length}
 use borrow.Author.Tests.{ltb-true, ltb-false, lt-ltb, le-ltb, eqb-true, eqb-false, eq-eqb}
 use Rattle.laws.proofs.Orders.{left, side, el}
 use Rattle.laws.proofs.Priority.{side-sym, side-trans, first-side, first-trans, first-irrefl, first-total}
-use Rattle.laws.proofs.Sums.{sum-zero, sum-add, sum-single, sum-more, Passing, search}
+use Rattle.laws.proofs.Sums.{one-le, ones, sum-zero, sum-add, sum-single, sum-more, Passing, search}
 use Rattle.rules.proofs.Grid.{both}
 use Rattle.rules.proofs.Sums.{sum-same, sum-le}
 use Rattle.rules.specs.AuctionPrice.{Auction}
@@ -173,11 +173,7 @@ module _ (h : Heading) (a : Auction) (os : List Standing) where
         sum-zero _ n (λ j l. none (share h a os t) j) ∙ sym (ap (min t) (sum-zero _ n (λ j l. none (left os) j)) ∙ omega arith)
       where
         none : (w : ℕ → ℕ) (j : ℕ) → cond (member j && ltb (place j) 0) (w j) 0 ≡ 0
-        none w j = rw (le-ltb (place j) 0 zero-le) (go (member j))
-          where
-            go : (t : Bool) → cond (t && false) (w j) 0 ≡ 0
-            go true = refl
-            go false = refl
+        none w j = rw (le-ltb (place j) 0 zero-le, and-false (member j))
     handed-below t (suc x) =
         below-next (share h a os t) x ∙ go (search (λ j. member j && eqb (place j) x) n) (handed-below t x)
         ∙ sym (ap (min t) (below-next (left os) x))
@@ -210,14 +206,10 @@ module _ (h : Heading) (a : Auction) (os : List Standing) where
         ∙ handed-below t top ∙ ap (min t) (sum-same _ _ n (λ j l. all j (member j) (place-low j))) ∙ omega arith
       where
         top : ℕ
-        top = suc (sumTo (λ j. 1) n)
-
-        one : (t : Bool) → cond t 1 0 ≤ 1
-        one true = le-refl 1
-        one false = zero-le
+        top = suc n
 
         place-low : (j : ℕ) → ltb (place j) top ≡ true
-        place-low j = lt-ltb (place j) top (omega (arith, sum-le _ (λ i. 1) n (λ i l. one (el h a os i && before i j))))
+        place-low j = lt-ltb (place j) top (omega (arith, sum-le _ (λ i. 1) n (λ i l. one-le (el h a os i && before i j)), ones n))
 
         part : (j : ℕ) (t₁ u : Bool) → el h a os j ≡ u → ltb (place j) top ≡ true
             → cond t₁ (cond u (min (left os j) (t - ahead h a os j)) 0) 0

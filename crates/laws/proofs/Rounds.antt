@@ -10,7 +10,7 @@ use lib.Dec.{ltb, eqb}
 use lib.ListN.{length, getD, length-map}
 use borrow.Author.Tests.{leb-true, ltb-true, ltb-false, eqb-true, lt-ltb}
 use Rattle.laws.proofs.Fills.{total-is}
-use Rattle.laws.proofs.Sums.{sum-more, Passing}
+use Rattle.laws.proofs.Sums.{one-le, ones, sum-more, Passing}
 use Rattle.laws.proofs.UsesUp.{usedUp, uses-up}
 use Rattle.rules.proofs.Grid.{both}
 use Rattle.rules.proofs.Lists.{length-listed, getD-listed}
@@ -45,13 +45,6 @@ one pieces = cond (ltb 0 pieces) 1 0
 
 pub live : Start → ℕ
 live s = sumTo (λ k. one (getD (s .remaining) k 0)) (length (s .remaining))
-
-one-le : (x : ℕ) → one x ≤ 1
-one-le x = go (ltb 0 x)
-  where
-    go : (t : Bool) → cond t 1 0 ≤ 1
-    go true = le-refl 1
-    go false = zero-le
 
 fewer : (x y : ℕ) → one (x - y) ≤ one x
 fewer x y = go (ltb 0 x) refl (ltb 0 (x - y)) refl
@@ -89,16 +82,11 @@ live-after s r k l some full =
         let none : getD (after s r .remaining) k 0 ≡ 0 = remaining-after s r k l ∙ omega arith in
         rw (none, lt-ltb 0 (getD (s .remaining) k 0) some) (le-refl 1)
 
-ones : (m : ℕ) → sumTo (λ j. 1) m ≡ m
-unfolding sumTo
-ones zero = refl
-ones (suc m) = rw (ones m) (omega arith)
-
 few-live : (s : Start) → live s ≤ length (s .remaining)
 unfolding live
 few-live s =
     let most =
-    sum-le (λ k. one (getD (s .remaining) k 0)) (λ k. 1) (length (s .remaining)) (λ j l. one-le (getD (s .remaining) j 0)) in
+    sum-le (λ k. one (getD (s .remaining) k 0)) (λ k. 1) (length (s .remaining)) (λ j l. one-le (ltb 0 (getD (s .remaining) j 0))) in
     omega (arith, ones (length (s .remaining)))
 
 -- ---- The rounds of an opening

@@ -1,9 +1,9 @@
 -- Laws of sums by number that part one order from the others: one part that is larger, one part alone, a sum in two parts.
-use mathlib.Core.Bool.{Bool, true, false}
+use mathlib.Core.Bool.{Bool, true, false, cond}
 use mathlib.Core.Logic.{_⊎_, inl, inr}
 use mathlib.Core.Path.{_≡_, refl}
-use Prim.Native.Nat.{ℕ, zero, suc, _+_, _≤_, _<_}
-use native.Mathlib.Nat.{eq-or-lt-of-le}
+use Prim.Native.Nat.{ℕ, zero, suc, _+_, _≤_, _<_, zero-le}
+use native.Mathlib.Nat.{le-refl, eq-or-lt-of-le}
 use native.Mathlib.Omega.{arith}
 use Rattle.rules.proofs.Sums.{sum-le}
 use Rattle.rules.specs.Lists.{sumTo}
@@ -17,6 +17,16 @@ pub sum-add : (f g k : ℕ → ℕ) (n : ℕ) → ((j : ℕ) → j < n → f j �
 unfolding sumTo
 sum-add f g k zero parts = refl
 sum-add f g k (suc n) parts = omega (arith, sum-add f g k n (λ j l. parts j (omega arith)), parts n (omega arith))
+
+-- what an order adds to a count, and a count of all
+pub one-le : (t : Bool) → cond t 1 0 ≤ 1
+one-le true = le-refl 1
+one-le false = zero-le
+
+pub ones : (n : ℕ) → sumTo (λ j. 1) n ≡ n
+unfolding sumTo
+ones zero = refl
+ones (suc n) = rw (ones n) (omega arith)
 
 -- below suc n is n, or below n
 pub last-or-before : {k n : ℕ} → k < suc n → (k ≡ n) ⊎ (k < n)

@@ -6,12 +6,13 @@ use mathlib.Core.List.{List}
 use mathlib.Core.Logic.{_⊎_, inl, inr}
 use mathlib.Core.Path.{_≡_, refl, sym, ap, _∙_}
 use Prim.Native.Nat.{ℕ, _+_, _-_, _≤_, _<_, min, zero-le}
+use native.Mathlib.Decide.{ℕ-discrete}
 use native.Mathlib.Nat.{le-refl}
 use native.Mathlib.Omega.{arith}
 use lib.Dec.{ltb, eqb}
 use lib.ListN.{length}
 use borrow.Author.Tests.{le-leb, ltb-true, ltb-false, lt-ltb, eq-eqb}
-use Rattle.laws.proofs.Fills.{or-right, every-from, equal-or-not, fill-at, total-is, largest-most, fills-lawful}
+use Rattle.laws.proofs.Fills.{or-right, every-from, fill-at, total-is, largest-most, fills-lawful}
 use Rattle.laws.proofs.Handed.{ahead-more, share-of, share-out}
 use Rattle.laws.proofs.Orders.{left, side, el}
 use Rattle.laws.proofs.Priority.{side-is, side-same, side-sym, first-side, first-irrefl, first-total, first-eligible}
@@ -129,17 +130,17 @@ module _ (h : Heading) (a : Auction) (os : List Standing) (band : D h ≤ H h) w
         ranked j m (inr b) =
             or-right (eqb (share h a os (sum + 1) j) (left os j)) (eq-eqb (share h a os (sum + 1) j) 0 (after-empty j b))
 
-        apart : (j : ℕ) → j < n → sameSide (side os k) (side os j) ≡ true → (j ≡ k) ⊎ (j ≡ k → ⊥)
+        apart : (j : ℕ) → j < n → sameSide (side os k) (side os j) ≡ true → Dec (j ≡ k)
             → unsplit h a os (sum + 1) j ≡ true
-        apart j m q (inl e) = rw (e, basic)
-        apart j m q (inr other) =
+        apart j m q (yes e) = rw (e, basic)
+        apart j m q (no other) =
             or-right (not (numbered os j .«all_or_none»))
             (ranked j m (first-total h (numbered os j) (numbered os k) j k (side-sym (side os k) (side os j) q) other))
 
         whole : (j : ℕ) → j < n → (t : Bool) → sameSide (side os k) (side os j) ≡ t
             → (not t || unsplit h a os (sum + 1) j) ≡ true
         whole j m false q = refl
-        whole j m true q = apart j m q (equal-or-not j k)
+        whole j m true q = apart j m q (ℕ-discrete j k)
 
   -- ---- So some order is filled completely
 
@@ -150,10 +151,10 @@ module _ (h : Heading) (a : Auction) (os : List Standing) (band : D h ≤ H h) w
   uses-up pos = go (search usedUp n)
     where
       short : ((j : ℕ) → j < n → usedUp j ≡ false) → (k : ℕ) → k < n → 0 < fill k
-          → (fill k ≡ left os k) ⊎ (fill k ≡ left os k → ⊥) → fill k < left os k
-      short none k l some (inl full) =
+          → Dec (fill k ≡ left os k) → fill k < left os k
+      short none k l some (yes full) =
           absurd (false≢true (sym (none k l) ∙ rw (lt-ltb 0 (left os k) (omega arith), eq-eqb (fill k) (left os k) full)))
-      short none k l some (inr less) = omega (arith, fills-lawful h a os band .F1-within k l)
+      short none k l some (no less) = omega (arith, fills-lawful h a os band .F1-within k l)
 
       one-more-on : ((j : ℕ) → j < n → usedUp j ≡ false) → (s : Side) → reaches h a os s (sum + 1) ≡ true
       one-more-on none s =
@@ -161,7 +162,7 @@ module _ (h : Heading) (a : Auction) (os : List Standing) (band : D h ≤ H h) w
           let k = p .number in
           let t = side-and-some (sameSide s (side os k)) (fill k) (p .passes) in
           ap (λ (t : Side). reaches h a os t (sum + 1)) (side-is s (side os k) (t .0))
-          ∙ one-more k (p .below) (t .1) (short none k (p .below) (t .1) (equal-or-not (fill k) (left os k)))
+          ∙ one-more k (p .below) (t .1) (short none k (p .below) (t .1) (ℕ-discrete (fill k) (left os k)))
 
       go : ((j : ℕ) → j < n → usedUp j ≡ false) ⊎ Passing usedUp n → Passing usedUp n
       go (inr k) = k

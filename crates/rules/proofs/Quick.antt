@@ -1,5 +1,5 @@
 -- The rules by the limits alone: what the rules answer, with each scan of the grid replaced by a look at the limits. It
--- computes in no time, and the law of the scans makes it equal; of the rules' own text nothing is repeated here.
+-- computes in no time, and the law of the scans makes it equal. No rule is repeated here, only how a round is put together.
 use mathlib.Core.List.{List}
 use mathlib.Core.Path.{_≡_, ap, _∙_, fun-ext}
 use Prim.Native.Nat.{ℕ}
