@@ -1,11 +1,21 @@
 // The answer to a line, printed.
 use crate::fields::Fields;
+use crate::fields::Number;
 use crate::fields::field_end;
 use crate::fields::read_fields;
+use crate::fields::spelled;
 use rules::BandAnswer;
 use rules::Checked;
+use rules::CurvesAnswer;
 use rules::PriceAnswer;
 use rules::Refusal;
+
+// A call on a sheet, with the number that stands before its words.
+enum SheetCall {
+    Check,
+    Stepper(u64),
+    Curves(u64),
+}
 
 fn print_refusal(refusal: Refusal) {
     io::write_all(1, b"refused ");
@@ -38,6 +48,24 @@ fn print_price(answer: PriceAnswer) {
     }
 }
 
+fn print_curves(answer: CurvesAnswer) {
+    match answer {
+        CurvesAnswer::At {
+            demand,
+            supply,
+            volume,
+        } => {
+            io::print_decimal(1, demand.0);
+            io::write_all(1, b" ");
+            io::print_decimal(1, supply.0);
+            io::write_all(1, b" ");
+            io::print_decimal(1, volume.0);
+            io::write_all(1, b"\n");
+        }
+        CurvesAnswer::Refused(refusal) => print_refusal(refusal),
+    }
+}
+
 fn print_band(answer: BandAnswer) {
     match answer {
         BandAnswer::Bounds { lower, upper } => {
@@ -60,8 +88,16 @@ fn argument(value: u64) -> u32 {
     }
 }
 
+fn call_sheet(call: SheetCall, words: &[u32]) {
+    match call {
+        SheetCall::Check => print_check(sheet::check(words)),
+        SheetCall::Stepper(order) => print_price(auction::stepper_limit(words, order as usize)),
+        SheetCall::Curves(price) => print_curves(auction::curves_at(words, argument(price))),
+    }
+}
+
 // The words of a sheet, from fields of at most 32 bits.
-fn check_words(fields: &[u64; 2048], count: usize) {
+fn answer_words(call: SheetCall, fields: &[u64; 2048], count: usize) {
     if 2048 < count {
         return;
     }
@@ -71,14 +107,33 @@ fn check_words(fields: &[u64; 2048], count: usize) {
         words[i] = argument(fields[i]);
         i += 1;
     }
-    print_check(sheet::check(&words[..count]));
+    call_sheet(call, &words[..count]);
 }
 
-fn answer_check(text: &[u8]) {
+fn answer_sheet(call: SheetCall, text: &[u8]) {
     let mut fields = [0u64; 2048];
     match read_fields(text, true, &mut fields) {
-        Fields::Count(count) => check_words(&fields, count),
+        Fields::Count(count) => answer_words(call, &fields, count),
         Fields::Unreadable => unreadable(),
+    }
+}
+
+// The calls on a sheet that have a number before its words: an order's, or a price.
+fn answer_numbered(price: bool, text: &[u8]) {
+    if text.len() == 0 {
+        unreadable();
+        return;
+    }
+    let end = field_end(text, 1);
+    match spelled(&text[1..end], false) {
+        Number::Is(number) => {
+            if price {
+                answer_sheet(SheetCall::Curves(number), &text[end..]);
+            } else {
+                answer_sheet(SheetCall::Stepper(number), &text[end..]);
+            }
+        }
+        Number::Unreadable => unreadable(),
     }
 }
 
@@ -117,6 +172,22 @@ fn answer_band(name: &[u8], text: &[u8]) {
     }
 }
 
+fn answer_call(name: &[u8], text: &[u8]) {
+    if check::same(name, b"check") {
+        answer_sheet(SheetCall::Check, text);
+        return;
+    }
+    if check::same(name, b"stepper") {
+        answer_numbered(false, text);
+        return;
+    }
+    if check::same(name, b"curves") {
+        answer_numbered(true, text);
+        return;
+    }
+    answer_band(name, text);
+}
+
 pub(crate) fn answer(line: &[u8]) {
     if line.len() == 0 {
         return;
@@ -127,9 +198,5 @@ pub(crate) fn answer(line: &[u8]) {
         return;
     }
     let end = field_end(line, 0);
-    if check::same(&line[..end], b"check") {
-        answer_check(&line[end..]);
-    } else {
-        answer_band(&line[..end], &line[end..]);
-    }
+    answer_call(&line[..end], &line[end..]);
 }

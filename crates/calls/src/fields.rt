@@ -59,7 +59,7 @@ fn with_digit(value: u64, digit: u64, hex: bool) -> Number {
 }
 
 // The number that a field spells.
-fn spelled(text: &[u8], hex: bool) -> Number {
+pub(crate) fn spelled(text: &[u8], hex: bool) -> Number {
     if text.len() == 0 {
         return Number::Unreadable;
     }

@@ -1,6 +1,8 @@
 // Answers the calls of document 01 from standard input, one a line, each with a line of its own:
 //
 //     check WORD ..                    the words of a sheet, in hexadecimal
+//     stepper ORDER WORD ..            the limit in force of the Stepper of this number
+//     curves PRICE WORD ..             demand, supply and volume at this price
 //     indicative D H COUNT CLOSING AUCTION
 //     next CODE I
 //     widen D H SIDE

@@ -53,7 +53,7 @@ further : (s : Side) (p k : ℕ) → OnGrid p → k ≤ lastPrice → place s p 
 further Buy p k on h l = l
 further Sell p k on h l = omega arith
 
-price-at : (s : Side) (k : ℕ) → 1 ≤ k → priceAt s k ≡ some (nth s k)
+pub price-at : (s : Side) (k : ℕ) → 1 ≤ k → priceAt s k ≡ some (nth s k)
 price-at s zero h = absurd (omega arith)
 price-at s (suc k) h = refl
 

@@ -2,6 +2,9 @@
 pub mod Best
 pub mod Curves
 pub mod Sums
+pub mod Places
+pub mod Reach
+pub mod Rivals
 pub mod Orders
 pub mod Priority
 pub mod Handed

@@ -62,6 +62,18 @@ given-clear (c ∷ cs) vs {ws} e = record { hands-on = go (c .arises) e (given-c
     go true e rest a = let z : _≡_ {A = ℕ} 0 1 = cc in absurd (omega arith)
     go false e rest a = rest e .hands-on a
 
+-- where something was refused, the table stops with it
+pub refused-stops : (cs : List Check) (vs : List ℕ) {n k : ℕ} → downwards cs (gives vs) ≡ refuses n k → Stops cs n k
+unfolding downwards
+refused-stops [] vs e = let z : _≡_ {A = ℕ} 0 1 = cc in absurd (omega arith)
+refused-stops (c ∷ cs) vs {n} {k} e = record { refuses-all = go (c .arises) e (refused-stops cs vs) }
+  where
+    go : (t : Bool) → cond t (refuses (c .number) (c .order)) (downwards cs (gives vs)) ≡ refuses n k
+        → (downwards cs (gives vs) ≡ refuses n k → Stops cs n k)
+        → (a : Answer) → cond t (refuses (c .number) (c .order)) (downwards cs a) ≡ refuses n k
+    go true e rest a = e
+    go false e rest a = rest e .refuses-all a
+
 module _ (c : Check) (cs : List Check) (p : Clear (c ∷ cs)) where
   -- the first row does not arise
   pub clear-row : c .arises ≡ false

@@ -1,4 +1,4 @@
--- Laws of listed values: their number, the value at a place, and an array of m places that a loop fills from the front.
+-- Laws of listed values: equal ones, their number, the value at a place, and an array of m places that a loop fills from the front.
 use mathlib.Core.List.{List, [], _∷_, _++_, append-assoc}
 use mathlib.Core.Path.{_≡_, refl, sym, ap, _∙_}
 use Prim.Native.Nat.{ℕ, zero, suc, _+_, _-_, _≤_, _<_}
@@ -8,6 +8,11 @@ use native.Mathlib.Omega.{arith}
 use lib.ListN.{length, getD, set, replicate, length-append, List·getD-append}
 use lib.Seq.{set-at, getD-at}
 use Rattle.rules.specs.Lists.{listed}
+
+pub listed-same : {A : Type 0} (f g : ℕ → A) (n : ℕ) → ((j : ℕ) → j < n → f j ≡ g j) → listed f n ≡ listed g n
+unfolding listed
+listed-same f g zero same = refl
+listed-same f g (suc n) same = rw (listed-same f g n (λ j l. same j (omega arith)), same n (omega arith))
 
 module _ {A : Type 0} (f : ℕ → A) where
   pub length-listed : (n : ℕ) → length (listed f n) ≡ n

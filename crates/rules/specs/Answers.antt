@@ -7,6 +7,8 @@ use Rattle.rules.specs.declared.BandAnswer.{BandAnswer}
 use Rattle.rules.specs.declared.BandAnswer.the-variants.{Bounds, Refused as NoBand}
 use Rattle.rules.specs.declared.Checked.{Checked}
 use Rattle.rules.specs.declared.Checked.the-variants.{Accepted, Refused}
+use Rattle.rules.specs.declared.CurvesAnswer.{CurvesAnswer}
+use Rattle.rules.specs.declared.CurvesAnswer.the-variants.{At as AtPrice, Refused as NoCurves}
 use Rattle.rules.specs.declared.OrderFault.{OrderFault}
 use Rattle.rules.specs.declared.OrderFault.the-variants.{Kind, Terms, Quantity, Ignored}
 use Rattle.rules.specs.declared.PriceAnswer.{PriceAnswer}
@@ -74,6 +76,11 @@ checkAnswer (Refused r) = refused r
 abbrev pub priceAnswer : PriceAnswer → Answer
 priceAnswer (At p) = gives (p .0 ∷ [])
 priceAnswer (NoPrice r) = refused r
+
+-- Demand, supply and volume.
+abbrev pub curvesAnswer : CurvesAnswer → Answer
+curvesAnswer (AtPrice demand supply volume) = gives (demand .0 ∷ supply .0 ∷ volume .0 ∷ [])
+curvesAnswer (NoCurves r) = refused r
 
 -- The lower bound, then the upper.
 abbrev pub bandAnswer : BandAnswer → Answer

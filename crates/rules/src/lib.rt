@@ -9,6 +9,9 @@ pub struct Price(pub u32);
 // A quantity counts pieces.
 pub struct Pieces(pub u32);
 
+// The pieces of several orders together. In 64 bits there is room for any 120 quantities.
+pub struct Total(pub u64);
+
 // The last price of the grid, which starts at 1.
 pub const LAST_PRICE: u32 = 1000000;
 
@@ -146,6 +149,16 @@ pub enum Checked {
 // The answer of a call that gives a price.
 pub enum PriceAnswer {
     At(Price),
+    Refused(Refusal),
+}
+
+// The answer of the call that gives demand, supply and volume at a price.
+pub enum CurvesAnswer {
+    At {
+        demand: Total,
+        supply: Total,
+        volume: Total,
+    },
     Refused(Refusal),
 }
 

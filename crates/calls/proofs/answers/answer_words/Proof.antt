@@ -1,17 +1,17 @@
--- `check_words` is safe and ends: the words stay an array of 2048. The measure is the number of words left.
+-- `answer_words` is safe and ends: the words stay an array of 2048. The measure is the number of words left.
 use mathlib.Core.Path.{_≡_}
 use Prim.Native.Nat.{_-_, _≤_}
 use native.Mathlib.Omega.{arith}
 use lib.ListN.{length, length-set, length-take}
 use Rattle.rules.proofs.Tests.{tests}
-use Rattle.calls.proofs.answers.check_words.Statement.{statement}
-use Rattle.calls.proofs.answers.check_words.Tie as tie
+use Rattle.calls.proofs.answers.answer_words.Statement.{statement}
+use Rattle.calls.proofs.answers.answer_words.Tie as tie
 
 abbrev Inv-loop : tie.InvT-loop
-Inv-loop fields count words₀ i₀ words i = (i ≤ count) × (length words ≡ 2048)
+Inv-loop call fields count words₀ i₀ words i = (i ≤ count) × (length words ≡ 2048)
 
 abbrev μ-loop : tie.MeasureT-loop
-μ-loop fields count words₀ i₀ words i = count - i
+μ-loop call fields count words₀ i₀ words i = count - i
 
 returns : tie.Need-returns Inv-loop μ-loop
 returns c = search tests
@@ -46,20 +46,17 @@ loop-again c = (omega arith, simp length-set (omega arith))
 array-share-prefix-words : tie.Need-array-share-prefix-words Inv-loop μ-loop
 array-share-prefix-words c = omega arith
 
-slice-aggregate-check : tie.Need-slice-aggregate-check Inv-loop μ-loop
-slice-aggregate-check c = simp length-take (omega arith)
+slice-aggregate-call-sheet : tie.Need-slice-aggregate-call-sheet Inv-loop μ-loop
+slice-aggregate-call-sheet c = simp length-take (omega arith)
 
-check-requires : tie.Need-check-requires Inv-loop μ-loop
-check-requires c κs = search tests
-
-print-check-requires : tie.Need-print-check-requires Inv-loop μ-loop
-print-check-requires c κs = search tests
+call-sheet-requires : tie.Need-call-sheet-requires Inv-loop μ-loop
+call-sheet-requires c κs = search tests
 
 returns-2 : tie.Need-returns-2 Inv-loop μ-loop
 returns-2 c = search tests
 
-pub check-words-spec : {M : Type 1} → statement M
-check-words-spec =
+pub answer-words-spec : {M : Type 1} → statement M
+answer-words-spec =
     tie.close
     (tie.spec
     Inv-loop
@@ -75,7 +72,6 @@ check-words-spec =
     loop-less
     loop-again
     array-share-prefix-words
-    slice-aggregate-check
-    check-requires
-    print-check-requires
+    slice-aggregate-call-sheet
+    call-sheet-requires
     returns-2)

@@ -1,0 +1,2 @@
+-- Laws of the calls on a sheet, for the proofs of the functions.
+pub mod FirstRound

@@ -1,0 +1,41 @@
+// Document 01, "Opening": the calls on a sheet. Their arguments may be any numbers: the sheet's faults are
+// refused first, then what is not allowed.
+mod first;
+
+ghost use mathlib.Core.Path.{_≡_};
+ghost use Rattle.rules.specs.Answers.{priceAnswer, curvesAnswer};
+ghost use Rattle.rules.specs.Calls.{answer, stepperLimit, curvesAt};
+use first::curves_in_first;
+use first::limit_in_first;
+use rules::Checked;
+use rules::CurvesAnswer;
+use rules::PriceAnswer;
+use sheet::read_sheet;
+
+// The call that gives the limit in force of a Stepper in the first round, from the order's number.
+pub fn stepper_limit(words: &[u32], order: usize) -> PriceAnswer
+    ensures { λ r. ⌜ priceAnswer r ≡ answer (stepperLimit (now (words .entry)) order) ⌝ }
+{
+    let reading = read_sheet(words);
+    let checked = reading.checked;
+    let heading = reading.heading;
+    let orders = reading.orders;
+    match checked {
+        Checked::Accepted => limit_in_first(heading, orders, order),
+        Checked::Refused(refusal) => PriceAnswer::Refused(refusal),
+    }
+}
+
+// The call that gives demand, supply and volume at a price in the first round.
+pub fn curves_at(words: &[u32], price: u32) -> CurvesAnswer
+    ensures { λ r. ⌜ curvesAnswer r ≡ answer (curvesAt (now (words .entry)) price) ⌝ }
+{
+    let reading = read_sheet(words);
+    let checked = reading.checked;
+    let heading = reading.heading;
+    let orders = reading.orders;
+    match checked {
+        Checked::Accepted => curves_in_first(heading, orders, price),
+        Checked::Refused(refusal) => CurvesAnswer::Refused(refusal),
+    }
+}
