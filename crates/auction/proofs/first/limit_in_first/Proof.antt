@@ -1,6 +1,7 @@
 -- `limit_in_first` meets its contract: a number that no order has and an order that is no Stepper are refused, a Stepper stands where
 -- its place says.
 use mathlib.Core.Path.{_≡_, refl}
+use native.Mathlib.Omega.{arith}
 use lib.ListN.{length}
 use Rattle.auction.proofs.FirstRound.{no-such-order, no-stepper, stepper-stands}
 use Rattle.rules.proofs.Tests.{tests}
@@ -12,7 +13,7 @@ long : (c : tie.Start) → length (c .args .t2) ≡ 120
 long c = search tests
 
 returns : tie.Need-returns
-returns c = no-such-order (c .before .before .args .heading) (c .before .before .args .t2) (long (c .before .before)) (c .before .before .pre) _ (c .if1 .taken)
+returns c = no-such-order (c .before .before .args .heading) (c .before .before .args .t2) (long (c .before .before)) (c .before .before .pre) _ (omega arith)
 
 mul-found : tie.Need-mul-found
 mul-found c = search needs
