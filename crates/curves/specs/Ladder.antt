@@ -32,19 +32,19 @@ item xs j = getD xs j 0
 abbrev pub parting : ℕ
 parting = 0x1_0000_0000
 
-abbrev pub placeIn : ℕ → ℕ
-placeIn rung = rung / parting
+abbrev pub rungPlace : ℕ → ℕ
+rungPlace rung = rung / parting
 
-abbrev pub piecesIn : ℕ → ℕ
-piecesIn rung = rung % parting
+abbrev pub rungPieces : ℕ → ℕ
+rungPieces rung = rung % parting
 
 -- What a rung adds at place k.
 unfoldable pub addedAt : ℕ → ℕ → ℕ
-addedAt k rung = cond (leb k (placeIn rung)) (piecesIn rung) 0
+addedAt k rung = cond (leb k (rungPlace rung)) (rungPieces rung) 0
 
 -- The rung of an order on side s adds, at each place, what the order has at its price.
 pub record RungOf (s : Side) (o : Standing) (rung : ℕ) : Type 0 where
-  pub placed : placeIn rung ≤ lastPrice
+  pub placed : rungPlace rung ≤ lastPrice
   pub adds : (k : ℕ) → OnGrid k → addedAt k rung ≡ cond (standsAt s (nth s k) o) (o .remaining .0) 0
 
 -- The first n numbers fall.
@@ -63,7 +63,7 @@ pub record Inserted (old : List ℕ) (n x : ℕ) (new : List ℕ) (m : ℕ) : Ty
 pub record Lined (s : Side) (os : List Standing) (r : Lines) : Type 0 where
   pub few : r .count ≤ 120
   pub falling : Falling (r .rungs) (r .count)
-  pub places : (j : ℕ) → j < r .count → placeIn (item (r .rungs) j) ≤ lastPrice
+  pub places : (j : ℕ) → j < r .count → rungPlace (item (r .rungs) j) ≤ lastPrice
   pub curve : (k : ℕ) → OnGrid k → sumTo (λ j. addedAt k (item (r .rungs) j)) (r .count) ≡ curve s os (nth s k)
 
 -- ---- Ladders

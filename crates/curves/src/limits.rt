@@ -1,5 +1,6 @@
-// Document 01, "Limits in force": the orders of a round at their entered limits, and at their limits in force. A Stepper's best
-// rival is found on the ladder of its side, where all orders of the side stand at their entered limits.
+// Document 01, "Limits in force": the orders of a round at their entered limits, and at their limits in
+// force. A Stepper's best rival is found on the ladder of its side, where all orders of the side stand at
+// their entered limits.
 ghost use mathlib.Core.Path.{_≡_};
 ghost use Prim.Native.Nat.{ℕ, min};
 ghost use Rattle.laws.proofs.Rivals.{rivalPlace};

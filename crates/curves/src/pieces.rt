@@ -8,7 +8,6 @@ ghost use Rattle.rules.specs.Limits.{allows, standsAt};
 use crate::places::placed;
 use crate::places::same_side;
 use crate::places::wide;
-use rules::Pieces;
 use rules::Price;
 use rules::Side;
 use rules::Standing;
