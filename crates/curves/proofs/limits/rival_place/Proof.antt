@@ -1,5 +1,8 @@
 -- `rival_place` meets its contract: the two reaches are those of the law of rivals, and the test between them is its test.
-use borrow.Author.Tests.{lt-ltb, le-ltb}
+use mathlib.Core.Path.{ap, _∙_}
+use Prim.Native.Nat.{ℕ, _+_}
+use Rattle.laws.proofs.Reach.{reach}
+use Rattle.laws.proofs.Rivals.{rival-beyond, rival-within}
 use borrow.Author.Needs.{needs}
 use Rattle.curves.proofs.limits.rival_place.Statement.{statement}
 use Rattle.curves.proofs.limits.rival_place.Tie as tie
@@ -14,7 +17,9 @@ reach-requires : tie.Need-reach-requires
 reach-requires c κs = search needs
 
 returns : tie.Need-returns
-returns c = λ F l. rw (← c .before .before .wide .ensures .0, ← c .before .reach .ensures F l, lt-ltb _ _ (c .if1 .taken))
+returns c = λ F l.
+    rival-beyond F _ _ _ (c .before .reach .ensures F l ∙ ap (λ (w : ℕ). reach F (w + 1)) (c .before .before .wide .ensures .0))
+    (c .if1 .taken)
 
 wide-requires-2 : tie.Need-wide-requires-2
 wide-requires-2 c κs = search needs
@@ -26,7 +31,10 @@ reach-requires-2 : tie.Need-reach-requires-2
 reach-requires-2 c κs = search needs
 
 returns-2 : tie.Need-returns-2
-returns-2 c = λ F l. rw (← c .before .before .before .before .wide .ensures .0, ← c .before .before .before .reach .ensures F l, le-ltb _ _ (c .before .before .if1 .left), ← c .before .wide2 .ensures .0) (c .reach2 .ensures F l)
+returns-2 c = λ F l.
+    let ignored = c .before .before .before .before .wide .ensures .0 in
+    rival-within F _ _ _ (c .before .before .before .reach .ensures F l ∙ ap (λ (w : ℕ). reach F (w + 1)) ignored)
+    (c .before .before .if1 .left) (c .reach2 .ensures F l ∙ rw (ignored, c .before .wide2 .ensures .0))
 
 pub rival-place-spec : {M : Type 1} → statement M
 rival-place-spec =
