@@ -1,12 +1,11 @@
 -- The first round of a sheet. The places of an accepted sheet begin with its orders, so what the engine works out from heading and places
 -- is the rules' answer; a refused sheet stops every call with its own refusal.
-use mathlib.Core.Bool.{true, false, _&&_}
+use mathlib.Core.Bool.{true, false, not, cond}
 use mathlib.Core.List.{List, [], _∷_, map, map-map, append-nil}
 use mathlib.Core.Path.{_≡_, refl, sym, ap, _∙_}
 use Prim.Native.Nat.{ℕ, zero, suc, _+_, _-_, _≤_, _<_, min}
 use native.Mathlib.Omega.{arith}
-use lib.Dec.{ltb}
-use lib.ListN.{length, getD, take, set, replicate, length-take, length-map, List·getD-map}
+use lib.ListN.{length, getD, take, set, replicate, length-map, List·getD-map}
 use lib.Seq.{getD-take, take-at, ext-getD}
 use borrow.Author.Tests.{le-ltb, lt-ltb}
 use Rattle.curves.proofs.InForce.{first-in-places, at-in-places}
@@ -17,7 +16,7 @@ use Rattle.rules.proofs.Downwards.{Clear, Stops, given-clear, refused-stops, do
 use Rattle.rules.proofs.Lists.{length-listed, getD-listed, filled, filled-none, filled-more}
 use Rattle.rules.specs.Answers.{gives, refuses, Check, row, downwards, checkAnswer, refusalNumber, refusalOrder, refused}
 use Rattle.rules.specs.AuctionPrice.{curve, level}
-use Rattle.rules.specs.Calls.{stepperLimit, curvesAt, onSheet, stepper, firstStanding, answerBy, answer}
+use Rattle.rules.specs.Calls.{stepperLimit, curvesAt, onSheet, isStepper, stepper, curvesOf, firstStanding, answerBy, answer}
 use Rattle.rules.specs.Grid.{onGrid}
 use Rattle.rules.specs.Limits.{noOrder, filed, numbered, standing}
 use Rattle.rules.specs.Lists.{listed}
@@ -33,7 +32,7 @@ use Rattle.rules.specs.declared.Standing.{Standing}
 use Rattle.rules.specs.declared.Terms.{Terms}
 use Rattle.sheet.specs.Reading.{headingRead, placesRead, ReadsAs}
 use Rattle.sheet.specs.declared.Reading.{Reading}
-use Rattle.auction.specs.First.{standingFirst, limitFirst, curvesFirst}
+use Rattle.auction.specs.First.{AcceptedAs}
 
 -- ---- The quantities
 
@@ -78,63 +77,97 @@ remaining-first h orders =
     ap (map (λ (m : Pieces). m .0)) (take-map (λ (o : Order). o .quantity) (h .count) orders)
     ∙ map-map (λ (m : Pieces). m .0) (λ (o : Order). o .quantity) (take (h .count) orders)
 
-pub stands-first : (h : Heading) (orders : List Order) {quantities : List Pieces} {os : List Standing}
-    → quantities ≡ map (λ (o : Order). o .quantity) orders
-    → os ≡ inPlaces (standing h (filedIn h orders) (remainingIn h quantities)) → os ≡ inPlaces (standingFirst h orders)
-stands-first h orders e placed = rw (e, remaining-first h orders) at placed
+-- ---- An accepted sheet
 
--- ---- The calls, by heading and places
+module _ {ws : List ℕ} {h : Heading} {orders : List Order} (a : AcceptedAs ws h orders) where
+  -- only the call's own row is left
+  own-row : (own : Check) (vs : List ℕ)
+      → onSheet ws own vs ≡ cond (own .arises) (refuses (own .number) (own .order)) (gives vs)
+  unfolding checkSheet downwards
+  own-row own vs =
+      let clear : Clear (sheetChecks ws) = given-clear (sheetChecks ws) [] (a .passes) in
+      downwards-append (sheetChecks ws) (own ∷ []) (gives vs) ∙ clear .hands-on _
 
-module _ (h : Heading) (orders : List Order) (long : length orders ≡ mostOrders) (fits : h .count ≤ mostOrders) where
-  count-standing : length (standingFirst h orders) ≡ h .count
-  unfolding filedIn
-  count-standing =
-      length-standing h (filedIn h orders) _
-      ∙ omega (arith, length-take (h .count) orders)
+  orders-are : filedIn h orders ≡ ordersOf ws
+  unfolding filedIn placesRead ordersOf
+  orders-are =
+      rw (a .headed, a .placed, a .passes)
+      (take-at (ordersOf ws) (replicate (mostOrders - headingOf ws .count) noOrder) (headingOf ws .count)
+      (length-listed _ (headingOf ws .count)))
 
-  filed-at : (k : ℕ) → k < h .count → filed (filedIn h orders) k ≡ filed orders k
-  unfolding filedIn
-  filed-at k l = getD-take (h .count) orders k noOrder l
+  count-first : length (firstStanding ws) ≡ headingOf ws .count
+  unfolding firstStanding ordersOf
+  count-first = length-standing (headingOf ws) (ordersOf ws) _ ∙ length-listed _ (headingOf ws .count)
+
+  pub stands-first : {quantities : List Pieces} {os : List Standing} → quantities ≡ map (λ (o : Order). o .quantity) orders
+      → os ≡ inPlaces (standing h (filedIn h orders) (remainingIn h quantities)) → os ≡ inPlaces (firstStanding ws)
+  unfolding firstStanding firstStart
+  stands-first e placed = rw (e, remaining-first h orders, orders-are, a .headed) at placed
+
+  count-is : h .count ≡ headingOf ws .count
+  count-is = ap (λ (h : Heading). h .count) (a .headed)
 
   module _ (k : ℕ) where
-    pub no-such-order : h .count ≤ k → refuses 9 0 ≡ limitFirst h orders k
-    unfolding limitFirst downwards
-    no-such-order past = rw (le-ltb k (h .count) past)
+    limit-answer : answer (stepperLimit ws k)
+        ≡ cond (not (isStepper ws k)) (refuses 9 0) (gives (numbered (firstStanding ws) k .limit .0 ∷ []))
+    unfolding answer answerBy
+    limit-answer = own-row (row 9 (not (isStepper ws k))) _
 
     -- whether the order is a Stepper is told by its terms
-    own-terms : k < h .count → {t : Terms} → filed orders k .terms ≡ t
-        → (ltb k (h .count) && stepper (filed (filedIn h orders) k .terms)) ≡ stepper t
-    own-terms l e = rw (lt-ltb k (h .count) l, filed-at k l, e)
+    own-terms : k < h .count → {t : Terms} → filed orders k .terms ≡ t → isStepper ws k ≡ stepper t
+    unfolding filedIn
+    own-terms l e =
+        let own : filed (ordersOf ws) k ≡ filed orders k =
+        ap (λ (os : List Order). filed os k) (sym orders-are) ∙ getD-take (h .count) orders k noOrder l in
+        rw (lt-ltb k (headingOf ws .count) (omega (arith, count-is)), own, e)
 
-    pub no-stepper : k < h .count → {t : Terms} → filed orders k .terms ≡ t → stepper t ≡ false → refuses 9 0 ≡ limitFirst h orders k
-    unfolding limitFirst downwards
-    no-stepper l e none = rw (own-terms l e, none)
+    pub no-such-order : h .count ≤ k → refuses 9 0 ≡ answer (stepperLimit ws k)
+    no-such-order past = rw (limit-answer, le-ltb k (headingOf ws .count) (omega (arith, count-is)))
+
+    pub no-stepper : k < h .count → {t : Terms} → filed orders k .terms ≡ t → stepper t ≡ false
+        → refuses 9 0 ≡ answer (stepperLimit ws k)
+    no-stepper l e none = rw (limit-answer, own-terms l e, none)
 
     pub stepper-stands : k < h .count → {t : Terms} → filed orders k .terms ≡ t → stepper t ≡ true → {os : List Standing}
-        → os ≡ inPlaces (standingFirst h orders) → gives (numbered os k .limit .0 ∷ []) ≡ limitFirst h orders k
-    unfolding limitFirst downwards
+        → os ≡ inPlaces (firstStanding ws) → gives (numbered os k .limit .0 ∷ []) ≡ answer (stepperLimit ws k)
     stepper-stands l e is placed =
-        rw (own-terms l e, is)
+        rw (limit-answer, own-terms l e, is)
         (ap (λ (o : Standing). gives (o .limit .0 ∷ []))
-        (ap (λ (os : List Standing). numbered os k) placed ∙ at-in-places (standingFirst h orders) k (rw count-standing l)))
+        (ap (λ (os : List Standing). numbered os k) placed
+        ∙ at-in-places (firstStanding ws) k (omega (arith, count-first, count-is))))
 
   module _ (p : ℕ) where
-    pub off-grid : onGrid p ≡ false → refuses 9 0 ≡ curvesFirst h orders p
-    unfolding curvesFirst downwards
-    off-grid off = rw off
+    curves-answer : answer (curvesAt ws p)
+        ≡ cond (not (onGrid p)) (refuses 9 0) (gives (curvesOf (level (headingOf ws) (firstStanding ws) p)))
+    unfolding answer answerBy
+    curves-answer = own-row (row 9 (not (onGrid p))) _
 
-    pub curves-stand : onGrid p ≡ true → {os : List Standing} → os ≡ inPlaces (standingFirst h orders) → {d s v : ℕ}
+    pub off-grid : onGrid p ≡ false → refuses 9 0 ≡ answer (curvesAt ws p)
+    off-grid off = rw (curves-answer, off)
+
+    pub curves-stand : onGrid p ≡ true → {os : List Standing} → os ≡ inPlaces (firstStanding ws) → {d s v : ℕ}
         → d ≡ curve Buy (take (h .count) os) p → s ≡ curve Sell (take (h .count) os) p → v ≡ min d s
-        → gives (d ∷ s ∷ v ∷ []) ≡ curvesFirst h orders p
-    unfolding curvesFirst downwards level
+        → gives (d ∷ s ∷ v ∷ []) ≡ answer (curvesAt ws p)
+    unfolding level
     curves-stand on {os} placed demand supply volume =
-        let first : take (h .count) os ≡ standingFirst h orders =
-        ap (take (h .count)) placed ∙ first-in-places (standingFirst h orders) (h .count) count-standing in
-        rw (on, volume, rw first at demand, rw first at supply)
+        let first : take (h .count) os ≡ firstStanding ws =
+        ap (take (h .count)) placed ∙ first-in-places (firstStanding ws) (h .count) (count-first ∙ sym count-is) in
+        rw (curves-answer, on, volume, rw first at demand, rw first at supply)
 
--- ---- From the sheet to its first round
+-- ---- From the reading to the answer
 
 module _ (ws : List ℕ) {r : Reading} (reads : ReadsAs ws r) where
+  pub accepted-as : r .checked ≡ Accepted → AcceptedAs ws (r .heading) (r .orders)
+  unfolding headingRead
+  accepted-as e =
+      let passes : checkSheet ws ≡ gives [] = sym (reads .checked) ∙ ap checkAnswer e in
+      record { passes = passes; headed = reads .heading ∙ rw passes; placed = reads .orders }
+
+  pub few-orders : r .checked ≡ Accepted → r .heading .count ≤ 120
+  few-orders e =
+      let a = accepted-as e in
+      rw (a .headed) (accepted-sound ws (a .passes) .heading .count)
+
   -- a refused sheet refuses the call
   refused-sheet : {refusal : Refusal} → r .checked ≡ Refused refusal → (own : Check) (vs : List ℕ)
       → refused refusal ≡ onSheet ws own vs
@@ -151,36 +184,3 @@ module _ (ws : List ℕ) {r : Reading} (reads : ReadsAs ws r) where
   pub curves-refused : {refusal : Refusal} → r .checked ≡ Refused refusal → (p : ℕ) → refused refusal ≡ answer (curvesAt ws p)
   unfolding answer answerBy
   curves-refused e p = refused-sheet e _ _
-
-  module _ (accepted : r .checked ≡ Accepted) where
-    passes : checkSheet ws ≡ gives []
-    passes = sym (reads .checked) ∙ ap checkAnswer accepted
-
-    -- only the call's own row is left
-    own-row : (own : Check) (vs : List ℕ) → downwards (own ∷ []) (gives vs) ≡ onSheet ws own vs
-    unfolding checkSheet
-    own-row own vs =
-        let clear : Clear (sheetChecks ws) = given-clear (sheetChecks ws) [] passes in
-        sym (downwards-append (sheetChecks ws) (own ∷ []) (gives vs) ∙ clear .hands-on _)
-
-    heading-is : r .heading ≡ headingOf ws
-    unfolding headingRead
-    heading-is = reads .heading ∙ rw passes
-
-    pub few-orders : r .heading .count ≤ 120
-    few-orders = rw heading-is (accepted-sound ws passes .heading .count)
-
-    orders-are : filedIn (r .heading) (r .orders) ≡ ordersOf ws
-    unfolding filedIn placesRead ordersOf
-    orders-are =
-        rw (heading-is, reads .orders, passes)
-        (take-at (ordersOf ws) (replicate (mostOrders - headingOf ws .count) noOrder) (headingOf ws .count)
-        (length-listed _ (headingOf ws .count)))
-
-    pub limit-accepted : (k : ℕ) → limitFirst (r .heading) (r .orders) k ≡ answer (stepperLimit ws k)
-    unfolding limitFirst answer answerBy firstStanding firstStart
-    limit-accepted k = rw (orders-are, heading-is) (own-row _ _)
-
-    pub curves-accepted : (p : ℕ) → curvesFirst (r .heading) (r .orders) p ≡ answer (curvesAt ws p)
-    unfolding curvesFirst answer answerBy firstStanding firstStart
-    curves-accepted p = rw (orders-are, heading-is) (own-row _ _)

@@ -1,11 +1,13 @@
-// The first round of an accepted sheet: it starts from the sheet's quantities.
-ghost use mathlib.Core.List.{map};
+// The first round of an accepted sheet: it starts from the sheet's quantities. What is promised here is
+// promised of every accepted sheet with this heading and these orders.
+ghost use mathlib.Core.List.{List, map};
 ghost use mathlib.Core.Path.{_≡_};
-ghost use Prim.Native.Nat.{_≤_, min};
+ghost use Prim.Native.Nat.{ℕ, _≤_, min};
 ghost use Rattle.rules.specs.Answers.{priceAnswer, curvesAnswer};
+ghost use Rattle.rules.specs.Calls.{answer, stepperLimit, curvesAt, firstStanding};
 ghost use Rattle.rules.specs.declared.Order as declared;
 ghost use Rattle.curves.specs.Limits.{inPlaces};
-ghost use Rattle.auction.specs.First.{standingFirst, limitFirst, curvesFirst};
+ghost use Rattle.auction.specs.First.{AcceptedAs};
 use curves::limits::limits_in_force;
 use curves::pieces::pieces_at;
 use rules::CurvesAnswer;
@@ -39,7 +41,7 @@ fn quantities(orders: [Order; 120]) -> [Pieces; 120]
 
 // The orders of the first round at their limits in force.
 fn standing_first(heading: Heading, orders: [Order; 120]) -> [Standing; 120]
-    ensures { λ r. ⌜ r ≡ inPlaces (standingFirst heading orders) ⌝ }
+    ensures { λ r. ⌜ ((ws : List ℕ) → AcceptedAs ws heading orders → r ≡ inPlaces (firstStanding ws)) ⌝ }
 {
     limits_in_force(heading, orders, quantities(orders))
 }
@@ -53,7 +55,7 @@ fn smaller(a: Total, b: Total) -> Total
 // The limit in force of the order of a number, where it is a Stepper.
 pub(crate) fn limit_in_first(heading: Heading, orders: [Order; 120], order: usize) -> PriceAnswer
     requires { ⌜ heading .count ≤ 120 ⌝ }
-    ensures { λ r. ⌜ priceAnswer r ≡ limitFirst heading orders order ⌝ }
+    ensures { λ r. ⌜ ((ws : List ℕ) → AcceptedAs ws heading orders → priceAnswer r ≡ answer (stepperLimit ws order)) ⌝ }
 {
     if heading.count <= order {
         return PriceAnswer::Refused(Refusal::Argument);
@@ -80,8 +82,7 @@ pub(crate) fn limit_in_first(heading: Heading, orders: [Order; 120], order: usiz
 
 // Demand, supply and volume at a price of the grid.
 pub(crate) fn curves_in_first(heading: Heading, orders: [Order; 120], price: u32) -> CurvesAnswer
-    requires { ⌜ heading .count ≤ 120 ⌝ }
-    ensures { λ r. ⌜ curvesAnswer r ≡ curvesFirst heading orders price ⌝ }
+    ensures { λ r. ⌜ ((ws : List ℕ) → AcceptedAs ws heading orders → curvesAnswer r ≡ answer (curvesAt ws price)) ⌝ }
 {
     if !on_grid(price) {
         return CurvesAnswer::Refused(Refusal::Argument);

@@ -82,6 +82,10 @@ pub record Rungs (F : ℕ → ℕ) (n : ℕ) (places sums : List ℕ) : Type 0 w
   pub beyond : (j k : ℕ) → j < n → item places j < k → k ≤ lastPrice → F k ≤ sumBefore sums j
   pub all : (k : ℕ) → OnGrid k → F k ≤ sumBefore sums n
 
+-- The rungs of side s of the orders os.
+abbrev pub RungsOf : Side → List Standing → ℕ → List ℕ → List ℕ → Type 0
+RungsOf s os n places sums = Rungs (λ k. curve s os (nth s k)) n places sums
+
 -- The ladder of side s of the orders os.
 abbrev pub LadderOf : Side → List Standing → Ladder → Type 0
-LadderOf s os l = Rungs (λ k. curve s os (nth s k)) (l .count) (l .places) (l .sums)
+LadderOf s os l = RungsOf s os (l .count) (l .places) (l .sums)

@@ -1,6 +1,5 @@
 -- `curves_at` meets its contract: an accepted sheet leaves the call's own row, a refused one its own refusal.
-use mathlib.Core.Path.{_∙_}
-use Rattle.auction.proofs.FirstRound.{few-orders, curves-accepted, curves-refused}
+use Rattle.auction.proofs.FirstRound.{accepted-as, curves-refused}
 use borrow.Author.Needs.{needs}
 use Rattle.auction.proofs.curves_at.Statement.{statement}
 use Rattle.auction.proofs.curves_at.Tie as tie
@@ -12,13 +11,13 @@ enum-told : tie.Need-enum-told
 enum-told c = search needs
 
 curves-in-first-requires : tie.Need-curves-in-first-requires
-curves-in-first-requires c κs = few-orders _ (c .before .before .before .before .read-sheet .ensures) (c .enum-told .given .1)
+curves-in-first-requires c κs = search needs
 
 enum-known-checked : tie.Need-enum-known-checked
 enum-known-checked c = search needs
 
 returns : tie.Need-returns
-returns c = c .curves-in-first .ensures ∙ curves-accepted (c .before .before .before .before .before .before .before .args .words .now) (c .before .before .before .before .before .read-sheet .ensures) (c .before .enum-told .given .1) _
+returns c = c .curves-in-first .ensures _ (accepted-as _ (c .before .before .before .before .before .read-sheet .ensures) (c .before .enum-told .given .1))
 
 returns-2 : tie.Need-returns-2
 returns-2 c = curves-refused (c .before .before .before .before .before .before .before .args .words .now) (c .before .before .before .before .before .read-sheet .ensures) (c .before .checked .given .1) _

@@ -1,6 +1,5 @@
 -- `stepper_limit` meets its contract: an accepted sheet leaves the call's own row, a refused one its own refusal.
-use mathlib.Core.Path.{_∙_}
-use Rattle.auction.proofs.FirstRound.{few-orders, limit-accepted, limit-refused}
+use Rattle.auction.proofs.FirstRound.{few-orders, accepted-as, limit-refused}
 use borrow.Author.Needs.{needs}
 use Rattle.auction.proofs.stepper_limit.Statement.{statement}
 use Rattle.auction.proofs.stepper_limit.Tie as tie
@@ -18,7 +17,7 @@ enum-known-checked : tie.Need-enum-known-checked
 enum-known-checked c = search needs
 
 returns : tie.Need-returns
-returns c = c .limit-in-first .ensures ∙ limit-accepted (c .before .before .before .before .before .before .before .args .words .now) (c .before .before .before .before .before .read-sheet .ensures) (c .before .enum-told .given .1) _
+returns c = c .limit-in-first .ensures _ (accepted-as _ (c .before .before .before .before .before .read-sheet .ensures) (c .before .enum-told .given .1))
 
 returns-2 : tie.Need-returns-2
 returns-2 c = limit-refused (c .before .before .before .before .before .before .before .args .words .now) (c .before .before .before .before .before .read-sheet .ensures) (c .before .checked .given .1) _

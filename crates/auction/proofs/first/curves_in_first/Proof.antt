@@ -1,21 +1,16 @@
 -- `curves_in_first` meets its contract: a price off the grid is refused, on the grid both curves are read from the orders as they stand.
-use mathlib.Core.Path.{_≡_, sym, _∙_}
-use lib.ListN.{length}
+use mathlib.Core.Path.{sym, _∙_}
 use borrow.Author.Tests.{not-true, not-false}
 use Rattle.auction.proofs.FirstRound.{off-grid, curves-stand}
-use Rattle.rules.proofs.Tests.{tests}
 use borrow.Author.Needs.{needs}
 use Rattle.auction.proofs.first.curves_in_first.Statement.{statement}
 use Rattle.auction.proofs.first.curves_in_first.Tie as tie
-
-long : (c : tie.Start) → length (c .args .orders) ≡ 120
-long c = search tests
 
 on-grid-requires : tie.Need-on-grid-requires
 on-grid-requires c κs = search needs
 
 returns : tie.Need-returns
-returns c = off-grid (c .before .before .args .heading) (c .before .before .args .orders) (long (c .before .before)) (c .before .before .pre) _ (sym (c .before .on-grid .ensures) ∙ not-true _ (c .if1 .taken))
+returns c = λ ws a. off-grid a _ (sym (c .before .on-grid .ensures) ∙ not-true _ (c .if1 .taken))
 
 standing-first-requires : tie.Need-standing-first-requires
 standing-first-requires c κs = search needs
@@ -30,7 +25,9 @@ smaller-requires : tie.Need-smaller-requires
 smaller-requires c κs = search needs
 
 returns-2 : tie.Need-returns-2
-returns-2 c = curves-stand (c .before .before .before .before .before .before .args .heading) (c .before .before .before .before .before .before .args .orders) (long (c .before .before .before .before .before .before)) (c .before .before .before .before .before .before .pre) _ (sym (c .before .before .before .before .before .on-grid .ensures) ∙ not-false _ (c .before .before .before .before .if1 .left)) (c .before .before .before .standing-first .ensures) (c .before .before .pieces-at .ensures) (c .before .pieces-at2 .ensures) (c .smaller .ensures)
+returns-2 c = λ ws a.
+    curves-stand a _ (sym (c .before .before .before .before .before .on-grid .ensures) ∙ not-false _ (c .before .before .before .before .if1 .left)) (c .before .before .before .standing-first .ensures ws a)
+    (c .before .before .pieces-at .ensures) (c .before .pieces-at2 .ensures) (c .smaller .ensures)
 
 pub curves-in-first-spec : {M : Type 1} → statement M
 curves-in-first-spec =

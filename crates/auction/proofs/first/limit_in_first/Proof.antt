@@ -1,19 +1,14 @@
 -- `limit_in_first` meets its contract: a number that no order has and an order that is no Stepper are refused, a Stepper stands where
 -- its place says.
-use mathlib.Core.Path.{_≡_, refl}
+use mathlib.Core.Path.{refl}
 use native.Mathlib.Omega.{arith}
-use lib.ListN.{length}
 use Rattle.auction.proofs.FirstRound.{no-such-order, no-stepper, stepper-stands}
-use Rattle.rules.proofs.Tests.{tests}
 use borrow.Author.Needs.{needs}
 use Rattle.auction.proofs.first.limit_in_first.Statement.{statement}
 use Rattle.auction.proofs.first.limit_in_first.Tie as tie
 
-long : (c : tie.Start) → length (c .args .t2) ≡ 120
-long c = search tests
-
 returns : tie.Need-returns
-returns c = no-such-order (c .before .before .args .heading) (c .before .before .args .t2) (long (c .before .before)) (c .before .before .pre) _ (omega arith)
+returns c = λ ws a. no-such-order a _ (omega arith)
 
 mul-found : tie.Need-mul-found
 mul-found c = search needs
@@ -40,13 +35,13 @@ array-copy-out-own : tie.Need-array-copy-out-own
 array-copy-out-own c = search needs
 
 returns-2 : tie.Need-returns-2
-returns-2 c = no-stepper (c .before .before .before .before .before .args .heading) (c .before .before .before .before .before .args .t2) (long (c .before .before .before .before .before)) (c .before .before .before .before .before .pre) _ (c .before .before .before .if1 .left) (c .enum-told .given .1) refl
+returns-2 c = λ ws a. no-stepper a _ (c .before .before .before .if1 .left) (c .enum-told .given .1) refl
 
 returns-3 : tie.Need-returns-3
-returns-3 c = no-stepper (c .before .before .before .before .before .args .heading) (c .before .before .before .before .before .args .t2) (long (c .before .before .before .before .before)) (c .before .before .before .before .before .pre) _ (c .before .before .before .if1 .left) (c .enum-told2 .given .1) refl
+returns-3 c = λ ws a. no-stepper a _ (c .before .before .before .if1 .left) (c .enum-told2 .given .1) refl
 
 returns-4 : tie.Need-returns-4
-returns-4 c = stepper-stands (c .before .before .before .before .before .before .before .before .args .heading) (c .before .before .before .before .before .before .before .before .args .t2) (long (c .before .before .before .before .before .before .before .before)) (c .before .before .before .before .before .before .before .before .pre) _ (c .before .before .before .before .before .before .if1 .left) (c .before .before .before .enum-told3 .given .1) refl (c .before .before .standing-first .ensures)
+returns-4 c = λ ws a. stepper-stands a _ (c .before .before .before .before .before .before .if1 .left) (c .before .before .before .enum-told3 .given .1) refl (c .before .before .standing-first .ensures ws a)
 
 pub limit-in-first-spec : {M : Type 1} → statement M
 limit-in-first-spec =

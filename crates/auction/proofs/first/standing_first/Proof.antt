@@ -11,7 +11,7 @@ limits-in-force-requires : tie.Need-limits-in-force-requires
 limits-in-force-requires c κs = search needs
 
 returns : tie.Need-returns
-returns c = stands-first (c .before .before .args .heading) (c .before .before .args .orders) (c .before .quantities .ensures) (c .limits-in-force .ensures)
+returns c = λ ws a. stands-first a (c .before .quantities .ensures) (c .limits-in-force .ensures)
 
 pub standing-first-spec : {M : Type 1} → statement M
 standing-first-spec = tie.close (tie.spec quantities-requires limits-in-force-requires returns)
