@@ -26,7 +26,8 @@ use Rattle.rules.specs.declared.Standing.{Standing}
 use Rattle.rules.specs.declared.Terms.{Terms}
 use Rattle.rules.specs.declared.Terms.the-variants.{WithoutLimit, Limited, Stepper}
 use Rattle.curves.specs.Ladder.{LadderOf}
-use Rattle.curves.specs.Limits.{filedIn, remainingIn, inPlaces, Ladders, steppedBy, inForceBy}
+use Rattle.curves.specs.Limits.{filedIn, remainingIn, inPlaces}
+use Rattle.curves.specs.Steps.{Ladders, steppedBy, inForceBy}
 use Rattle.curves.specs.declared.ladder.Ladder.{Ladder}
 
 -- ---- Places that a loop fills

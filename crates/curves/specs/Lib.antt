@@ -1,2 +1,3 @@
 pub mod Ladder
 pub mod Limits
+pub mod Steps

@@ -32,6 +32,16 @@ ones (suc n) = rw (ones n) (omega arith)
 pub last-or-before : {k n : ℕ} → k < suc n → (k ≡ n) ⊎ (k < n)
 last-or-before {k} {n} l = eq-or-lt-of-le (omega arith)
 
+-- a sum of more parts
+pub sum-longer : (f : ℕ → ℕ) (m n : ℕ) → m ≤ n → sumTo f m ≤ sumTo f n
+unfolding sumTo
+sum-longer f m zero h = let e : m ≡ 0 = omega arith in rw e (le-refl _)
+sum-longer f m (suc n) h = go (last-or-before (omega arith)) (λ l. sum-longer f m n l)
+  where
+    go : (m ≡ suc n) ⊎ (m < suc n) → (m ≤ n → sumTo f m ≤ sumTo f n) → sumTo f m ≤ sumTo f n + f n
+    go (inl e) before = rw e (le-refl _)
+    go (inr l) before = omega (arith, before (omega arith))
+
 -- the part of k alone
 pub sum-single : (f : ℕ → ℕ) (n k : ℕ) → k < n → ((j : ℕ) → j < n → (j ≡ k → ⊥) → f j ≡ 0) → sumTo f n ≡ f k
 unfolding sumTo

@@ -48,3 +48,8 @@ module _ {A : Type 0} (f : ℕ → A) where
       rw (e, add-one n)
       (set-at (listed f n) x (replicate (m - suc n) x) (f n) n (length-listed n)
       ∙ sym (append-assoc (listed f n) (f n ∷ []) (replicate (m - suc n) x)))
+
+  pub filled-at : (x : A) (m n i : ℕ) (d : A) → i < n → getD (filled x m n) i d ≡ f i
+  filled-at x m n i d h =
+      let e : length (listed f n) ≡ n = length-listed n in
+      List·getD-append (listed f n) (replicate (m - n) x) d i (omega arith) ∙ getD-listed n i d h

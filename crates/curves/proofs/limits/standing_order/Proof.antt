@@ -1,5 +1,5 @@
 -- `standing_order` meets its contract: a Stepper at the limit that the call gives, all others as they were entered.
-use Rattle.curves.specs.Limits.{inForceBy}
+use Rattle.curves.specs.Steps.{inForceBy}
 use borrow.Author.Needs.{needs}
 use Rattle.curves.proofs.limits.standing_order.Statement.{statement}
 use Rattle.curves.proofs.limits.standing_order.Tie as tie

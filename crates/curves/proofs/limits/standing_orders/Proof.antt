@@ -4,7 +4,7 @@ use Prim.Native.Nat.{ℕ, _-_}
 use native.Mathlib.Omega.{arith}
 use Rattle.rules.specs.Limits.{filed, numbered}
 use Rattle.rules.specs.declared.Side.{Side}
-use Rattle.curves.specs.Limits.{Ladders, inForceBy}
+use Rattle.curves.specs.Steps.{Ladders, inForceBy}
 use Rattle.curves.proofs.InForce.{Placed, placed-none, placed-more, placed-all}
 use Rattle.rules.proofs.Tests.{tests}
 use Rattle.curves.proofs.limits.standing_orders.Statement.{statement}
