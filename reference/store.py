@@ -3,9 +3,10 @@
 
 usage: store.py KIND SEED LINES ANSWERS     KIND as in `reference sheets KIND COUNT SEED`
 
-Of 3,000 random lines it takes the first 200 of small sheets (up to 30 orders), the first 40 of large ones (100 orders and more)
+Of the random lines it takes the first 200 of small sheets (up to 30 orders), the first 40 of large ones (100 orders and more)
 and the first 8 of each refusal (up to 40 orders), and appends them to the file LINES and the reference implementation's answers
-to the file ANSWERS, each under a line that says where they are from.
+to the file ANSWERS, each under a line that says where they are from. Of small first rounds it takes 400 of situation 0 and 160
+of each other, and 40 for which the space is too small.
 """
 import collections
 import pathlib
@@ -23,26 +24,29 @@ def reference(*words, given=None):
     return subprocess.run(command, input=given, capture_output=True, text=True, check=True).stdout
 
 
-lines = reference("sheets", kind, "3000", seed)
+count = {"round": "12000"}.get(kind, "3000")
+lines = reference("sheets", kind, count, seed)
 answers = reference("calls", given=lines).splitlines()
 
 MOST = {"small": 200, "large": 40}
+if kind == "round":
+    MOST = {"situation 0": 400, "large": 40, "10": 40} | {f"situation {s}": 160 for s in range(1, 5)}
 LONGEST = 4096
 
 
 def sort_of(line, answer):
-    """What a line is picked as: a refusal's number, small, large, or None."""
+    """What a line is picked as: a refusal's number, small (a first round by its situation), large, or None."""
     orders = (len(line.split()) - 7) // 3
     if len(line) > LONGEST:
         return None
     if answer.startswith("refused"):
         return answer.split()[1] if orders <= 40 else None
     if orders <= 30:
-        return "small"
+        return f"situation {int(answer.split()[0], 16) % 16}" if kind == "round" else "small"
     return "large" if orders >= 100 else None
 
 
-heading = f"# {kind}: of 3000 random lines with seed {seed}, answered by the reference implementation"
+heading = f"# {kind}: of {count} random lines with seed {seed}, answered by the reference implementation"
 picked = [(heading, heading)]
 taken = collections.Counter()
 for line, answer in zip(lines.splitlines(), answers, strict=True):

@@ -70,7 +70,7 @@ take-map f (suc n) [] = refl
 take-map f (suc n) (x ∷ xs) = ap (λ (ys : List _). f x ∷ ys) (take-map f n xs)
 
 -- what remains at first is the quantities
-remaining-first : (h : Heading) (orders : List Order)
+pub remaining-first : (h : Heading) (orders : List Order)
     → remainingIn h (map (λ (o : Order). o .quantity) orders) ≡ map (λ (o : Order). o .quantity .0) (filedIn h orders)
 unfolding remainingIn filedIn
 remaining-first h orders =
@@ -81,21 +81,21 @@ remaining-first h orders =
 
 module _ {ws : List ℕ} {h : Heading} {orders : List Order} (a : AcceptedAs ws h orders) where
   -- only the call's own row is left
-  own-row : (own : Check) (vs : List ℕ)
+  pub own-row : (own : Check) (vs : List ℕ)
       → onSheet ws own vs ≡ cond (own .arises) (refuses (own .number) (own .order)) (gives vs)
   unfolding checkSheet downwards
   own-row own vs =
       let clear : Clear (sheetChecks ws) = given-clear (sheetChecks ws) [] (a .passes) in
       downwards-append (sheetChecks ws) (own ∷ []) (gives vs) ∙ clear .hands-on _
 
-  orders-are : filedIn h orders ≡ ordersOf ws
+  pub orders-are : filedIn h orders ≡ ordersOf ws
   unfolding filedIn placesRead ordersOf
   orders-are =
       rw (a .headed, a .placed, a .passes)
       (take-at (ordersOf ws) (replicate (mostOrders - headingOf ws .count) noOrder) (headingOf ws .count)
       (length-listed _ (headingOf ws .count)))
 
-  count-first : length (firstStanding ws) ≡ headingOf ws .count
+  pub count-first : length (firstStanding ws) ≡ headingOf ws .count
   unfolding firstStanding ordersOf
   count-first = length-standing (headingOf ws) (ordersOf ws) _ ∙ length-listed _ (headingOf ws .count)
 
@@ -104,7 +104,7 @@ module _ {ws : List ℕ} {h : Heading} {orders : List Order} (a : AcceptedAs ws 
   unfolding firstStanding firstStart
   stands-first e placed = rw (e, remaining-first h orders, orders-are, a .headed) at placed
 
-  count-is : h .count ≡ headingOf ws .count
+  pub count-is : h .count ≡ headingOf ws .count
   count-is = ap (λ (h : Heading). h .count) (a .headed)
 
   module _ (k : ℕ) where
@@ -169,7 +169,7 @@ module _ (ws : List ℕ) {r : Reading} (reads : ReadsAs ws r) where
       rw (a .headed) (accepted-sound ws (a .passes) .heading .count)
 
   -- a refused sheet refuses the call
-  refused-sheet : {refusal : Refusal} → r .checked ≡ Refused refusal → (own : Check) (vs : List ℕ)
+  pub refused-sheet : {refusal : Refusal} → r .checked ≡ Refused refusal → (own : Check) (vs : List ℕ)
       → refused refusal ≡ onSheet ws own vs
   unfolding checkSheet
   refused-sheet {refusal} e own vs =

@@ -1,2 +1,3 @@
 -- Laws of the calls on a sheet, for the proofs of the functions.
 pub mod FirstRound
+pub mod FirstWritten

@@ -13,3 +13,8 @@ pub record AcceptedAs (ws : List ℕ) (heading : Heading) (orders : List Order) 
   pub passes : checkSheet ws ≡ gives []
   pub headed : heading ≡ headingOf ws
   pub placed : orders ≡ placesRead ws
+
+-- They are those of some accepted sheet.
+pub record OfSheet (heading : Heading) (orders : List Order) : Type 0 where
+  pub words : List ℕ
+  pub accepted : AcceptedAs words heading orders

@@ -3,13 +3,16 @@
 ghost use mathlib.Core.List.{List, map};
 ghost use mathlib.Core.Path.{_≡_};
 ghost use Prim.Native.Nat.{ℕ, _≤_, min};
-ghost use Rattle.rules.specs.Answers.{priceAnswer, curvesAnswer};
-ghost use Rattle.rules.specs.Calls.{answer, stepperLimit, curvesAt, firstStanding};
+ghost use Rattle.rules.specs.Answers.{priceAnswer, curvesAnswer, spaceAnswer};
+ghost use Rattle.rules.specs.Calls.{answer, stepperLimit, curvesAt, firstStanding, FirstRound};
 ghost use Rattle.rules.specs.declared.Order as declared;
 ghost use Rattle.curves.specs.Limits.{inPlaces};
-ghost use Rattle.auction.specs.First.{AcceptedAs};
+ghost use Rattle.auction.specs.First.{AcceptedAs, OfSheet};
+use compare::smaller;
 use curves::limits::limits_in_force;
 use curves::pieces::pieces_at;
+use rounds::round_of;
+use rounds::words::write_round;
 use rules::CurvesAnswer;
 use rules::Heading;
 use rules::Order;
@@ -18,9 +21,9 @@ use rules::Price;
 use rules::PriceAnswer;
 use rules::Refusal;
 use rules::Side;
+use rules::SpaceAnswer;
 use rules::Standing;
 use rules::Terms;
-use rules::Total;
 use rules::on_grid;
 
 // The quantities of the orders, place by place.
@@ -44,12 +47,6 @@ fn standing_first(heading: Heading, orders: [Order; 120]) -> [Standing; 120]
     ensures { λ r. ⌜ ((ws : List ℕ) → AcceptedAs ws heading orders → r ≡ inPlaces (firstStanding ws)) ⌝ }
 {
     limits_in_force(heading, orders, quantities(orders))
-}
-
-fn smaller(a: Total, b: Total) -> Total
-    ensures { λ r. ⌜ r .0 ≡ min (a .0) (b .0) ⌝ }
-{
-    if a.0 < b.0 { a } else { b }
 }
 
 // The limit in force of the order of a number, where it is a Stepper.
@@ -95,4 +92,24 @@ pub(crate) fn curves_in_first(heading: Heading, orders: [Order; 120], price: u32
         supply,
         volume: smaller(demand, supply),
     }
+}
+
+// The first round, written into the lent space where it has the words.
+pub(crate) fn round_in_first(
+    heading: Heading,
+    orders: [Order; 120],
+    space: &mut [u32],
+) -> SpaceAnswer
+    requires { ⌜ OfSheet heading orders ⌝ }
+    ensures { λ r. ⌜ ((ws : List ℕ) → AcceptedAs ws heading orders → FirstRound ws (now (space .entry)) (now (space .exit)) (spaceAnswer r (now (space .exit)))) ⌝ }
+{
+    let count = heading.count;
+    let size = 4 + count;
+    if space.len() < size {
+        return SpaceAnswer::Refused(Refusal::Space);
+    }
+    let last = heading.last;
+    let round = round_of(heading, last, orders, quantities(orders));
+    write_round(&mut space[0..size], round, count);
+    SpaceAnswer::Written(size)
 }

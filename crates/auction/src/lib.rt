@@ -3,13 +3,15 @@
 mod first;
 
 ghost use mathlib.Core.Path.{_≡_};
-ghost use Rattle.rules.specs.Answers.{priceAnswer, curvesAnswer};
-ghost use Rattle.rules.specs.Calls.{answer, stepperLimit, curvesAt};
+ghost use Rattle.rules.specs.Answers.{priceAnswer, curvesAnswer, spaceAnswer};
+ghost use Rattle.rules.specs.Calls.{answer, stepperLimit, curvesAt, FirstRound};
 use first::curves_in_first;
 use first::limit_in_first;
+use first::round_in_first;
 use rules::Checked;
 use rules::CurvesAnswer;
 use rules::PriceAnswer;
+use rules::SpaceAnswer;
 use sheet::read_sheet;
 
 // The call that gives the limit in force of a Stepper in the first round, from the order's number.
@@ -37,5 +39,19 @@ pub fn curves_at(words: &[u32], price: u32) -> CurvesAnswer
     match checked {
         Checked::Accepted => curves_in_first(heading, orders, price),
         Checked::Refused(refusal) => CurvesAnswer::Refused(refusal),
+    }
+}
+
+// The call that runs the first round and writes it into the lent space, which needs 4 + n words.
+pub fn first_round(words: &[u32], space: &mut [u32]) -> SpaceAnswer
+    ensures { λ r. ⌜ FirstRound (now (words .entry)) (now (space .entry)) (now (space .exit)) (spaceAnswer r (now (space .exit))) ⌝ }
+{
+    let reading = read_sheet(words);
+    let checked = reading.checked;
+    let heading = reading.heading;
+    let orders = reading.orders;
+    match checked {
+        Checked::Accepted => round_in_first(heading, orders, space),
+        Checked::Refused(refusal) => SpaceAnswer::Refused(refusal),
     }
 }

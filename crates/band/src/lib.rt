@@ -4,9 +4,9 @@ mod rule;
 
 ghost use mathlib.Core.Path.{_≡_};
 ghost use Prim.Native.Nat.{_≤_};
-ghost use Rattle.rules.specs.Grid.{movedInto};
 ghost use Rattle.rules.specs.Answers.{priceAnswer, bandAnswer};
 ghost use Rattle.rules.specs.Band.{bandStands, indicativePrice, nextBand, widenedFor, widenedBand};
+use compare::moved_into;
 use rule::BandRule;
 use rules::BandAnswer;
 use rules::LAST_PRICE;
@@ -20,19 +20,6 @@ fn band_stands(lower: u32, upper: u32) -> bool
     ensures { λ r. ⌜ r ≡ bandStands lower upper ⌝ }
 {
     on_grid(lower) & on_grid(upper) & (lower < upper)
-}
-
-// A price moved to the nearer bound when outside the band.
-fn moved_into(lower: Price, upper: Price, price: Price) -> Price
-    ensures { λ r. ⌜ r .0 ≡ movedInto (lower .0) (upper .0) (price .0) ⌝ }
-{
-    if price.0 < lower.0 {
-        lower
-    } else if upper.0 < price.0 {
-        upper
-    } else {
-        price
-    }
 }
 
 // The call that gives the indicative price, from the band, the count of pieces traded, the closing

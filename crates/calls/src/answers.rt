@@ -4,6 +4,7 @@ use crate::fields::Number;
 use crate::fields::field_end;
 use crate::fields::read_fields;
 use crate::fields::spelled;
+use crate::round::print_round;
 use rules::BandAnswer;
 use rules::Checked;
 use rules::CurvesAnswer;
@@ -15,9 +16,10 @@ enum SheetCall {
     Check,
     Stepper(u64),
     Curves(u64),
+    Round(u64),
 }
 
-fn print_refusal(refusal: Refusal) {
+pub(crate) fn print_refusal(refusal: Refusal) {
     io::write_all(1, b"refused ");
     io::print_decimal(1, refusal.number() as u64);
     io::write_all(1, b" ");
@@ -93,6 +95,7 @@ fn call_sheet(call: SheetCall, words: &[u32]) {
         SheetCall::Check => print_check(sheet::check(words)),
         SheetCall::Stepper(order) => print_price(auction::stepper_limit(words, order as usize)),
         SheetCall::Curves(price) => print_curves(auction::curves_at(words, argument(price))),
+        SheetCall::Round(space) => print_round(space, words),
     }
 }
 
@@ -118,21 +121,30 @@ fn answer_sheet(call: SheetCall, text: &[u8]) {
     }
 }
 
-// The calls on a sheet that have a number before its words: an order's, or a price.
-fn answer_numbered(price: bool, text: &[u8]) {
+// What the number before the words of a sheet is: an order's, a price, or the size of a space.
+enum Numbered {
+    Stepper,
+    Curves,
+    Round,
+}
+
+fn with_number(call: Numbered, number: u64) -> SheetCall {
+    match call {
+        Numbered::Stepper => SheetCall::Stepper(number),
+        Numbered::Curves => SheetCall::Curves(number),
+        Numbered::Round => SheetCall::Round(number),
+    }
+}
+
+// The calls on a sheet that have a number before its words.
+fn answer_numbered(call: Numbered, text: &[u8]) {
     if text.len() == 0 {
         unreadable();
         return;
     }
     let end = field_end(text, 1);
     match spelled(&text[1..end], false) {
-        Number::Is(number) => {
-            if price {
-                answer_sheet(SheetCall::Curves(number), &text[end..]);
-            } else {
-                answer_sheet(SheetCall::Stepper(number), &text[end..]);
-            }
-        }
+        Number::Is(number) => answer_sheet(with_number(call, number), &text[end..]),
         Number::Unreadable => unreadable(),
     }
 }
@@ -178,11 +190,15 @@ fn answer_call(name: &[u8], text: &[u8]) {
         return;
     }
     if check::same(name, b"stepper") {
-        answer_numbered(false, text);
+        answer_numbered(Numbered::Stepper, text);
         return;
     }
     if check::same(name, b"curves") {
-        answer_numbered(true, text);
+        answer_numbered(Numbered::Curves, text);
+        return;
+    }
+    if check::same(name, b"round") {
+        answer_numbered(Numbered::Round, text);
         return;
     }
     answer_band(name, text);

@@ -3,6 +3,7 @@
 //     check WORD ..                    the words of a sheet, in hexadecimal
 //     stepper ORDER WORD ..            the limit in force of the Stepper of this number
 //     curves PRICE WORD ..             demand, supply and volume at this price
+//     round SPACE WORD ..              the words of the first round, in a space of so many words
 //     indicative D H COUNT CLOSING AUCTION
 //     next CODE I
 //     widen D H SIDE
@@ -12,6 +13,7 @@
 // stands, an empty line has no answer, and one that cannot be read is answered `unreadable`.
 mod answers;
 mod fields;
+mod round;
 
 use answers::answer;
 

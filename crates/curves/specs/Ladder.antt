@@ -28,13 +28,14 @@ sumBefore sums zero = 0
 sumBefore sums (suc j) = item sums j
 
 -- Of n rungs each has at its place at least its sum, and beyond it no more than the sum of the rung before. F k is what stands at
--- place k.
+-- place k. All pieces together are no more than 120 orders can have.
 pub record Rungs (F : ℕ → ℕ) (n : ℕ) (places sums : List ℕ) : Type 0 where
   pub few : n ≤ 120
   pub placed : (j : ℕ) → j < n → item places j ≤ lastPrice
   pub stand : (j : ℕ) → j < n → 1 ≤ item places j → item sums j ≤ F (item places j)
   pub beyond : (j k : ℕ) → j < n → item places j < k → k ≤ lastPrice → F k ≤ sumBefore sums j
   pub all : (k : ℕ) → OnGrid k → F k ≤ sumBefore sums n
+  pub room : sumBefore sums n ≤ 515396075400
 
 -- The rungs of side s of the orders os.
 abbrev pub RungsOf : Side → List Standing → ℕ → List ℕ → List ℕ → Type 0

@@ -4,24 +4,15 @@ ghost use mathlib.Core.Path.{_≡_};
 ghost use Prim.Native.Nat.{_≤_};
 ghost use lib.ListN.{take};
 ghost use Rattle.rules.specs.AuctionPrice.{curve};
-ghost use Rattle.rules.specs.Limits.{allows, standsAt};
-use crate::places::placed;
-use crate::places::same_side;
-use crate::places::wide;
+ghost use Rattle.rules.specs.Limits.{standsAt};
+use compare::allows;
+use compare::placed;
+use compare::same_side;
+use compare::wide;
 use rules::Price;
 use rules::Side;
 use rules::Standing;
 use rules::Total;
-
-// Whether a limit of a side allows a price.
-fn allows(side: Side, limit: Price, price: Price) -> bool
-    ensures { λ r. ⌜ r ≡ allows side (limit .0) (price .0) ⌝ }
-{
-    match side {
-        Side::Buy => price.0 <= limit.0,
-        Side::Sell => limit.0 <= price.0,
-    }
-}
 
 // What an order adds to the pieces of a side at a price.
 fn added_at(side: Side, order: Standing, price: Price) -> u64

@@ -33,15 +33,15 @@ NonePasses P = (q : ℕ) → OnGrid q → P q ≡ false
 
 -- ---- Places
 
-abbrev place : Side → ℕ → ℕ
+abbrev pub place : Side → ℕ → ℕ
 place Buy p = p
 place Sell p = lastPrice + 1 - p
 
-nth-place : (s : Side) (p : ℕ) → OnGrid p → nth s (place s p) ≡ p
+pub nth-place : (s : Side) (p : ℕ) → OnGrid p → nth s (place s p) ≡ p
 nth-place Buy p on = refl
 nth-place Sell p on = omega arith
 
-place-on : (s : Side) (p : ℕ) → OnGrid p → OnGrid (place s p)
+pub place-on : (s : Side) (p : ℕ) → OnGrid p → OnGrid (place s p)
 place-on Buy p on = on
 place-on Sell p on = (omega arith, omega arith)
 

@@ -9,49 +9,24 @@ use Prim.Native.Nat.{ℕ, zero, suc, _+_, _-_, _≤_, _<_, min, zero-le}
 use native.Mathlib.Decide.{ℕ-discrete}
 use native.Mathlib.Nat.{le-refl, eq-or-lt-of-le}
 use native.Mathlib.Omega.{arith}
-use lib.Dec.{leb, ltb, eqb}
+use lib.Dec.{ltb, eqb}
 use lib.ListN.{length}
 use lib.Seq.{ext-getD}
-use borrow.Author.Tests.{leb-true, le-leb, ltb-true, ltb-false, eqb-true, eq-eqb}
-use Rattle.laws.proofs.Handed.{ahead-more, share-of, shares-sum}
+use borrow.Author.Tests.{le-leb, ltb-true, ltb-false, eqb-true, eq-eqb}
+use Rattle.laws.proofs.Handed.{ahead-more, share-of}
 use Rattle.laws.proofs.Orders.{left, side, el}
 use Rattle.laws.proofs.Priority.{side-is, side-same, side-sym, first-side, first-irrefl, first-total, first-eligible}
-use Rattle.laws.proofs.Sums.{last-or-before, sum-more, sum-most}
-use Rattle.rules.proofs.Grid.{both}
-use Rattle.rules.proofs.Lists.{length-listed, getD-listed}
-use Rattle.rules.proofs.Scan.{largest-ge, largest-passes}
-use Rattle.rules.proofs.Sums.{sum-same, sum-le}
+use Rattle.laws.proofs.Sums.{sum-more, sum-most}
+use Rattle.laws.proofs.Totals.{every-from, or-right, either, reached-unsplit, largest-reached, largest-most, fills-length, fill-at, total-is}
+use Rattle.rules.proofs.Sums.{sum-le}
 use Rattle.rules.specs.AuctionPrice.{Auction}
 use Rattle.rules.specs.Fills.{rankedBefore, fillOf, total, FilledCompletely, Lawful, Largest, offered, ahead, share, unsplit, reaches, largestTotal, fillsOf}
 use Rattle.rules.specs.Limits.{sameSide, numbered}
-use Rattle.rules.specs.Lists.{everyTo, largestTo}
 use Rattle.rules.specs.Sheet.{D, H}
 use Rattle.rules.specs.declared.Heading.{Heading}
 use Rattle.rules.specs.declared.Side.{Side}
 use Rattle.rules.specs.declared.Side.the-variants.{Buy, Sell}
 use Rattle.rules.specs.declared.Standing.{Standing}
-
-every-at : (P : ℕ → Bool) (n k : ℕ) → everyTo P n ≡ true → k < n → P k ≡ true
-unfolding everyTo
-every-at P zero k e l = absurd (omega arith)
-every-at P (suc n) k e l = go (last-or-before l) (every-at P n k (both {a = everyTo P n} e .0))
-  where
-    go : (k ≡ n) ⊎ (k < n) → (k < n → P k ≡ true) → P k ≡ true
-    go (inl q) before = rw q (both {a = everyTo P n} e .1)
-    go (inr m) before = before m
-
-pub every-from : (P : ℕ → Bool) (n : ℕ) → ((k : ℕ) → k < n → P k ≡ true) → everyTo P n ≡ true
-unfolding everyTo
-every-from P zero all = refl
-every-from P (suc n) all = rw (every-from P n (λ k l. all k (omega arith)), all n (omega arith))
-
-pub or-right : (t : Bool) {u : Bool} → u ≡ true → (t || u) ≡ true
-or-right true e = refl
-or-right false e = e
-
-either : (t : Bool) {u : Bool} → (t || u) ≡ true → (t ≡ true) ⊎ (u ≡ true)
-either true e = inl refl
-either false e = inr e
 
 module _ (h : Heading) (a : Auction) (os : List Standing) (band : D h ≤ H h) where
   abbrev n : ℕ
@@ -181,63 +156,6 @@ module _ (h : Heading) (a : Auction) (os : List Standing) (band : D h ≤ H h) w
         whole k l false q = refl
         whole k l true q = fill-unsplit s k l q
 
-  -- ---- The largest total
-
-  abbrev most : ℕ
-  most = min (offered h a os Buy) (offered h a os Sell)
-
-  abbrev reached : ℕ → Bool
-  reached sum = reaches h a os Buy sum && reaches h a os Sell sum
-
-  -- of nothing everybody gets nothing, and a side can reach it
-  share-none : (k : ℕ) → share h a os 0 k ≡ 0
-  unfolding share
-  share-none k = go (el h a os k)
-    where
-      go : (t : Bool) → cond t (min (left os k) (0 - ahead h a os k)) 0 ≡ 0
-      go true = omega arith
-      go false = refl
-
-  reaches-none : (s : Side) → reaches h a os s 0 ≡ true
-  unfolding reaches
-  reaches-none s = rw (le-leb 0 (offered h a os s) zero-le, every-from _ n (λ k l. whole k))
-    where
-      whole : (k : ℕ) → (not (sameSide s (side os k)) || unsplit h a os 0 k) ≡ true
-      whole k =
-          or-right (not (sameSide s (side os k)))
-          (or-right (not (numbered os k .«all_or_none»))
-          (or-right (eqb (share h a os 0 k) (left os k)) (eq-eqb (share h a os 0 k) 0 (share-none k))))
-
-  -- both sides can reach the largest total
-  largest-reached : (s : Side) → reaches h a os s (largestTotal h a os) ≡ true
-  unfolding largestTotal
-  largest-reached s = go (largestTo reached most) refl
-    where
-      one : (s : Side) (x : ℕ) → reached x ≡ true → reaches h a os s x ≡ true
-      one Buy x e = both {a = reaches h a os Buy x} e .0
-      one Sell x e = both {a = reaches h a os Buy x} e .1
-
-      go : (x : ℕ) → largestTo reached most ≡ x → reaches h a os s (largestTo reached most) ≡ true
-      go zero e = rw e (reaches-none s)
-      go (suc x) e = one s (largestTo reached most) (largest-passes reached most (omega arith))
-
-  reached-offered : (s : Side) (x : ℕ) → reaches h a os s x ≡ true → x ≤ offered h a os s
-  unfolding reaches
-  reached-offered s x e = leb-true x (offered h a os s) (both {a = leb x (offered h a os s)} e .0)
-
-  reached-unsplit : (s : Side) (x k : ℕ) → reaches h a os s x ≡ true → k < n → sameSide s (side os k) ≡ true
-      → unsplit h a os x k ≡ true
-  unfolding reaches
-  reached-unsplit s x k e l q =
-      let each = both {a = leb x (offered h a os s)} e .1 in
-      rw q at (every-at (λ k. not (sameSide s (side os k)) || unsplit h a os x k) n k each l)
-
-  -- no total that both sides can reach is larger
-  pub largest-most : (sum : ℕ) → reaches h a os Buy sum ≡ true → reaches h a os Sell sum ≡ true → sum ≤ largestTotal h a os
-  unfolding largestTotal
-  largest-most sum e f =
-      largest-ge reached most sum (omega (arith, reached-offered Buy sum e, reached-offered Sell sum f)) (rw (e, f))
-
   -- ---- The fills
 
   abbrev sum : ℕ
@@ -245,14 +163,6 @@ module _ (h : Heading) (a : Auction) (os : List Standing) (band : D h ≤ H h) w
 
   abbrev fills : List ℕ
   fills = fillsOf h a os
-
-  pub fill-at : (k : ℕ) → k < n → fillOf fills k ≡ share h a os sum k
-  unfolding fillsOf
-  fill-at k l = getD-listed (share h a os sum) n k 0 l
-
-  fills-length : length fills ≡ n
-  unfolding fillsOf
-  fills-length = length-listed (share h a os sum) n
 
   share-within : (k : ℕ) → share h a os sum k ≤ left os k
   unfolding share
@@ -270,25 +180,15 @@ module _ (h : Heading) (a : Auction) (os : List Standing) (band : D h ≤ H h) w
       go true some = refl
       go false some = absurd (omega arith)
 
-  -- each side's total is the largest total
-  pub total-is : (s : Side) → total s os fills ≡ sum
-  unfolding total
-  total-is s =
-      sum-same _ _ n (λ k l. ap (λ (x : ℕ). cond (sameSide s (side os k)) x 0) (fill-at k l))
-      ∙ shares-sum h a os s sum enough
-    where
-      enough : sum ≤ offered h a os s
-      enough = reached-offered s sum (largest-reached s)
-
   -- F2: whoever stands below one with less than its remainder has as much ahead of it as there is
   below-short : (above k : ℕ) → above < n → k < n → el h a os k ≡ true → before above k ≡ true
       → (FilledCompletely os fills above → ⊥) → fillOf fills k ≡ 0
   below-short above k l m e b short =
       let e₁ : el h a os above ≡ true = first-eligible h a (numbered os above) (numbered os k) above k band b e in
-      let less : share h a os sum above ≡ left os above → ⊥ = λ q. short (fill-at above l ∙ q) in
+      let less : share h a os sum above ≡ left os above → ⊥ = λ q. short (fill-at h a os above l ∙ q) in
       let q₁ : share h a os sum above ≡ min (left os above) (sum - ahead h a os above) = share-of h a os sum above e₁ in
       let q₂ : share h a os sum k ≡ min (left os k) (sum - ahead h a os k) = share-of h a os sum k e in
-      fill-at k m ∙ q₂ ∙ nothing (strictly less q₁) (ahead-more h a os above k l e₁ b)
+      fill-at h a os k m ∙ q₂ ∙ nothing (strictly less q₁) (ahead-more h a os above k l e₁ b)
     where
       strictly : (share h a os sum above ≡ left os above → ⊥)
           → share h a os sum above ≡ min (left os above) (sum - ahead h a os above)
@@ -306,34 +206,34 @@ module _ (h : Heading) (a : Auction) (os : List Standing) (band : D h ≤ H h) w
   -- F3: of a total that a side can reach
   all-or-nothing : (k : ℕ) → k < n → numbered os k .«all_or_none» ≡ true → FilledCompletely os fills k ⊎ (fillOf fills k ≡ 0)
   all-or-nothing k l e =
-      let whole = reached-unsplit (side os k) sum k (largest-reached (side os k)) l (side-same (side os k)) in
+      let whole = reached-unsplit h a os (side os k) sum k (largest-reached h a os (side os k)) l (side-same (side os k)) in
       go (either (eqb (share h a os sum k) (left os k)) (rw e at whole))
     where
       go : (eqb (share h a os sum k) (left os k) ≡ true) ⊎ (eqb (share h a os sum k) 0 ≡ true)
           → FilledCompletely os fills k ⊎ (fillOf fills k ≡ 0)
-      go (inl q) = inl (fill-at k l ∙ eqb-true _ _ q)
-      go (inr q) = inr (fill-at k l ∙ eqb-true _ _ q)
+      go (inl q) = inl (fill-at h a os k l ∙ eqb-true _ _ q)
+      go (inr q) = inr (fill-at h a os k l ∙ eqb-true _ _ q)
 
   pub fills-lawful : Lawful h a os fills
   fills-lawful = record {
-    F1-eligible = λ k l some. share-eligible k (rw (fill-at k l) at some);
-    F1-within = λ k l. rw (fill-at k l) (share-within k);
+    F1-eligible = λ k l some. share-eligible k (rw (fill-at h a os k l) at some);
+    F1-within = λ k l. rw (fill-at h a os k l) (share-within k);
     F2 = below-short;
     F3 = all-or-nothing;
-    F4 = total-is Buy ∙ sym (total-is Sell);
+    F4 = total-is h a os Buy ∙ sym (total-is h a os Sell);
   }
 
   -- a lawful list of the same total is the same list
   same-total : (others : List ℕ) → length others ≡ n → Lawful h a os others → ((s : Side) → total s os others ≡ sum)
       → others ≡ fills
   same-total others long lawful same =
-      ext-getD 0 others fills (long ∙ sym fills-length)
+      ext-getD 0 others fills (long ∙ sym (fills-length h a os))
       (λ k l. let m : k < n = omega arith in
-      fill-is-share others lawful k m ∙ ap (λ (x : ℕ). share h a os x k) (same (side os k)) ∙ sym (fill-at k m))
+      fill-is-share others lawful k m ∙ ap (λ (x : ℕ). share h a os x k) (same (side os k)) ∙ sym (fill-at h a os k m))
 
   -- the fills are those that the document means
   pub fills-largest : Largest h a os fills
-  fills-largest = record { each = fills-length; lawful = fills-lawful; largest = smaller }
+  fills-largest = record { each = fills-length h a os; lawful = fills-lawful; largest = smaller }
     where
       sides : (others : List ℕ) → Lawful h a os others → (s : Side) → total s os others ≡ total Buy os others
       sides others lawful Buy = refl
@@ -342,9 +242,9 @@ module _ (h : Heading) (a : Auction) (os : List Standing) (band : D h ≤ H h) w
       smaller : (others : List ℕ) → length others ≡ n → Lawful h a os others → others ≢ fills
           → total Buy os others < total Buy os fills
       smaller others long lawful different =
-          rw (total-is Buy)
+          rw (total-is h a os Buy)
           (go (eq-or-lt-of-le
-          (largest-most (total Buy os others) (total-reached others lawful Buy)
+          (largest-most h a os (total Buy os others) (total-reached others lawful Buy)
           (rw (← lawful .F4) at (total-reached others lawful Sell)))))
         where
           go : (total Buy os others ≡ sum) ⊎ (total Buy os others < sum) → total Buy os others < sum

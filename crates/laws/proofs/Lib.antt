@@ -1,13 +1,19 @@
 -- Laws that follow from the rules.
 pub mod Best
 pub mod Curves
+pub mod Spans
 pub mod Sums
 pub mod Places
 pub mod Reach
 pub mod Rivals
+pub mod Crossing
 pub mod Orders
 pub mod Priority
+pub mod Ranks
 pub mod Handed
+pub mod Totals
 pub mod Fills
 pub mod UsesUp
 pub mod Rounds
+pub mod Bounds
+pub mod ReadBack

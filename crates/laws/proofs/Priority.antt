@@ -8,6 +8,7 @@ use Prim.Native.Nat.{ℕ, _-_, max, min, _≤_, _<_}
 use native.Mathlib.Omega.{arith}
 use lib.Dec.{ltb, eqb}
 use borrow.Author.Tests.{leb-true, le-leb, ltb-true, ltb-false, lt-ltb, le-ltb, eqb-true, eq-eqb}
+use Rattle.laws.proofs.Places.{same-test}
 use Rattle.rules.proofs.Grid.{both}
 use Rattle.rules.specs.AuctionPrice.{Auction}
 use Rattle.rules.specs.Fills.{potentialPurchase, eligible, priorityLimit, firstBy, filedFirst, firstOf}
@@ -21,13 +22,13 @@ use Rattle.rules.specs.declared.Standing.{Standing}
 
 -- ---- Three numbers, compared one after the other
 
-abbrev lex : ℕ → ℕ → ℕ → ℕ → ℕ → ℕ → Bool
+abbrev pub lex : ℕ → ℕ → ℕ → ℕ → ℕ → ℕ → Bool
 lex x z i y w j = ltb x y || eqb x y && (ltb z w || eqb z w && ltb i j)
 
-abbrev Lex : ℕ → ℕ → ℕ → ℕ → ℕ → ℕ → Type 0
+abbrev pub Lex : ℕ → ℕ → ℕ → ℕ → ℕ → ℕ → Type 0
 Lex x z i y w j = (x < y) ⊎ ((x ≡ y) × ((z < w) ⊎ ((z ≡ w) × (i < j))))
 
-lex-true : (x z i y w j : ℕ) → lex x z i y w j ≡ true → Lex x z i y w j
+pub lex-true : (x z i y w j : ℕ) → lex x z i y w j ≡ true → Lex x z i y w j
 lex-true x z i y w j = go (ltb x y) refl (eqb x y) refl (ltb z w) refl (eqb z w) refl (ltb i j) refl
   where
     go : (a : Bool) → ltb x y ≡ a → (b : Bool) → eqb x y ≡ b → (c : Bool) → ltb z w ≡ c → (d : Bool) → eqb z w ≡ d
@@ -39,7 +40,7 @@ lex-true x z i y w j = go (ltb x y) refl (eqb x y) refl (ltb z w) refl (eqb z w)
     go false _ true _ false _ false _ e _ t = absurd (false≢true t)
     go false _ false _ c _ d _ e _ t = absurd (false≢true t)
 
-lex-from : (x z i y w j : ℕ) → Lex x z i y w j → lex x z i y w j ≡ true
+pub lex-from : (x z i y w j : ℕ) → Lex x z i y w j → lex x z i y w j ≡ true
 lex-from x z i y w j (inl l) = rw (lt-ltb x y l)
 lex-from x z i y w j (inr (e, inl l)) = rw (le-ltb x y (omega arith), eq-eqb x y e, lt-ltb z w l)
 lex-from x z i y w j (inr (e, inr (f, l))) =
@@ -59,7 +60,7 @@ lex-irrefl x z i (inl l) = omega arith
 lex-irrefl x z i (inr (e, inl l)) = omega arith
 lex-irrefl x z i (inr (e, inr (f, l))) = omega arith
 
-three : (x y : ℕ) → (x < y) ⊎ ((x ≡ y) ⊎ (y < x))
+pub three : (x y : ℕ) → (x < y) ⊎ ((x ≡ y) ⊎ (y < x))
 three x y = go (ltb x y) refl (ltb y x) refl
   where
     go : (t : Bool) → ltb x y ≡ t → (u : Bool) → ltb y x ≡ u → (x < y) ⊎ ((x ≡ y) ⊎ (y < x))
@@ -82,18 +83,12 @@ lex-total x z i y w j other = go (three x y) (three z w) (three i j)
 
 -- ---- The three numbers of an order
 
--- two tests are one where each gives the other
-same-test : (t u : Bool) → (t ≡ true → u ≡ true) → (u ≡ true → t ≡ true) → t ≡ u
-same-test true u f g = sym (f refl)
-same-test false true f g = g refl
-same-test false false f g = refl
-
 -- lower goes first, on both sides
-abbrev classOf : Heading → Side → ℕ → ℕ
+abbrev pub classOf : Heading → Side → ℕ → ℕ
 classOf h Buy limit = H h - min limit (H h)
 classOf h Sell limit = max limit (D h)
 
-abbrev lateness : Bool → ℕ
+abbrev pub lateness : Bool → ℕ
 lateness allOrNone = cond allOrNone 1 0
 
 first-by : (h : Heading) (s : Side) (l m : ℕ)
@@ -157,7 +152,7 @@ module _ (h : Heading) where
       ≡ lex (classOf h s l) (lateness p) i (classOf h s m) (lateness q) j
   own-side s l m p q i j = rw (first-by h s l m, equal-by h s l m, filed-by p q i j)
 
-  first-lex : (a b : Standing) (i j : ℕ)
+  pub first-lex : (a b : Standing) (i j : ℕ)
       → firstOf h a b i j ≡ (sameSide (a .side) (b .side) && lex (class a) (late a) i (class b) (late b) j)
   unfolding firstOf
   first-lex a b i j = go (a .side) (b .side)

@@ -7,7 +7,9 @@ use native.Mathlib.Nat.{le-antisymm}
 use native.Mathlib.Omega.{arith}
 use lib.Dec.{leb}
 use borrow.Author.Tests.{leb-true, le-leb}
+use Rattle.laws.proofs.Places.{same-leb}
 use Rattle.rules.proofs.Ends.{priceAt, best-place}
+use Rattle.rules.proofs.Grid.{OnGrid}
 use Rattle.rules.proofs.Scan.{largest-le, largest-ge, largest-passes}
 use Rattle.rules.specs.Grid.{lastPrice, nth, overGrid}
 use Rattle.rules.specs.Lists.{largestTo}
@@ -41,6 +43,17 @@ module _ (F : ℕ → ℕ) where
           let m = largest-ge (λ k. leb v (F k)) lastPrice k most (le-leb v (F k) l) in
           absurd (omega arith)
       go (no l) = omega (arith, l)
+
+  -- where fewer stand the farther out, at least v stand up to it
+  pub up-to-reach : ((j k : ℕ) → j ≤ k → F k ≤ F j) → (v k : ℕ) → OnGrid k → leb v (F k) ≡ leb k (reach F v)
+  up-to-reach falls v k on = same-leb v (F k) k (reach F v) (λ h. reached h (decLe k (reach F v))) stand
+    where
+      reached : v ≤ F k → Dec (k ≤ reach F v) → k ≤ reach F v
+      reached h (yes l) = l
+      reached h (no l) = absurd (omega (arith, beyond-reach v k (on .1) (omega (arith, l))))
+
+      stand : k ≤ reach F v → v ≤ F k
+      stand l = omega (arith, reach-stands v (omega arith), falls k (reach F v) l)
 
   -- how to recognise it
   pub reach-is : (v k : ℕ) → k ≤ lastPrice → (1 ≤ k → v ≤ F k) → ((j : ℕ) → k < j → j ≤ lastPrice → F j < v)

@@ -9,8 +9,8 @@ use native.Mathlib.Omega.{arith}
 use lib.Dec.{ltb, eqb}
 use lib.ListN.{length, getD, length-map}
 use borrow.Author.Tests.{leb-true, ltb-true, ltb-false, eqb-true, lt-ltb}
-use Rattle.laws.proofs.Fills.{total-is}
 use Rattle.laws.proofs.Sums.{one-le, ones, sum-more, Passing}
+use Rattle.laws.proofs.Totals.{total-is}
 use Rattle.laws.proofs.UsesUp.{usedUp, uses-up}
 use Rattle.rules.proofs.Grid.{both}
 use Rattle.rules.proofs.Lists.{length-listed, getD-listed}
@@ -121,7 +121,7 @@ module _ (ws : List ℕ) (band : D (headingOf ws) ≤ H (headingOf ws)) where
   round-uses-up s goes =
       let traded = both {a = eqb (auctionFrom s .situation) 0 && inBand h (auctionFrom s .price)} goes .1 in
       uses-up h (auctionFrom s) (os s) band
-      (rw (total-is h (auctionFrom s) (os s) band Buy) at
+      (rw (total-is h (auctionFrom s) (os s) Buy) at
       (leb-true 1 (total Buy (os s) (fillsOf h (auctionFrom s) (os s))) traded))
 
   -- and so leaves fewer with pieces

@@ -12,11 +12,12 @@ use native.Mathlib.Omega.{arith}
 use lib.Dec.{ltb, eqb}
 use lib.ListN.{length}
 use borrow.Author.Tests.{le-leb, ltb-true, ltb-false, lt-ltb, eq-eqb}
-use Rattle.laws.proofs.Fills.{or-right, every-from, fill-at, total-is, largest-most, fills-lawful}
+use Rattle.laws.proofs.Fills.{fills-lawful}
 use Rattle.laws.proofs.Handed.{ahead-more, share-of, share-out}
 use Rattle.laws.proofs.Orders.{left, side, el}
 use Rattle.laws.proofs.Priority.{side-is, side-same, side-sym, first-side, first-irrefl, first-total, first-eligible}
 use Rattle.laws.proofs.Sums.{sum-zero, sum-more, Passing, search}
+use Rattle.laws.proofs.Totals.{or-right, every-from, largest-most, fill-at, total-is}
 use Rattle.rules.specs.AuctionPrice.{Auction}
 use Rattle.rules.specs.Fills.{rankedBefore, fillOf, total, FilledCompletely, offered, ahead, share, unsplit, reaches, largestTotal, fillsOf}
 use Rattle.rules.specs.Limits.{sameSide, numbered}
@@ -56,7 +57,7 @@ module _ (h : Heading) (a : Auction) (os : List Standing) (band : D h ≤ H h) w
       go (inl none) =
           let z : total s os (fillsOf h a os) ≡ 0 =
           sum-zero _ n (λ j l. omega (arith, ltb-false 0 (cond (sameSide s (side os j)) (fill j) 0) (none j l))) in
-          absurd (omega (arith, total-is h a os band s))
+          absurd (omega (arith, total-is h a os s))
 
   -- ---- One that is filled in part could take one piece more
 
@@ -67,7 +68,7 @@ module _ (h : Heading) (a : Auction) (os : List Standing) (band : D h ≤ H h) w
     -- its total ends within it
     ends-within : ahead h a os k + fill k ≡ sum
     ends-within =
-        let q : fill k ≡ min (left os k) (sum - ahead h a os k) = fill-at h a os band k l ∙ share-of h a os sum k taken in
+        let q : fill k ≡ min (left os k) (sum - ahead h a os k) = fill-at h a os k l ∙ share-of h a os sum k taken in
         omega arith
 
     ahead-offered : ahead h a os k + left os k ≤ offered h a os (side os k)
@@ -167,4 +168,4 @@ module _ (h : Heading) (a : Auction) (os : List Standing) (band : D h ≤ H h) w
       go : ((j : ℕ) → j < n → usedUp j ≡ false) ⊎ Passing usedUp n → Passing usedUp n
       go (inr k) = k
       go (inl none) =
-          absurd (omega (arith, largest-most h a os band (sum + 1) (one-more-on none Buy) (one-more-on none Sell)))
+          absurd (omega (arith, largest-most h a os (sum + 1) (one-more-on none Buy) (one-more-on none Sell)))

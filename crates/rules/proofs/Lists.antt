@@ -1,5 +1,5 @@
--- Laws of listed values: equal ones, their number, the value at a place, and an array of m places that a loop fills from the front.
-use mathlib.Core.List.{List, [], _∷_, _++_, append-assoc}
+-- Laws of listed values: equal ones, a function of them, their number, the value at a place, and an array of m places that a loop fills from the front.
+use mathlib.Core.List.{List, [], _∷_, _++_, map, map-append, append-assoc}
 use mathlib.Core.Path.{_≡_, refl, sym, ap, _∙_}
 use Prim.Native.Nat.{ℕ, zero, suc, _+_, _-_, _≤_, _<_}
 use native.Mathlib.Decide.{decLe}
@@ -13,6 +13,11 @@ pub listed-same : {A : Type 0} (f g : ℕ → A) (n : ℕ) → ((j : ℕ) → j 
 unfolding listed
 listed-same f g zero same = refl
 listed-same f g (suc n) same = rw (listed-same f g n (λ j l. same j (omega arith)), same n (omega arith))
+
+pub map-listed : {A B : Type 0} (g : A → B) (f : ℕ → A) (n : ℕ) → map g (listed f n) ≡ listed (λ k. g (f k)) n
+unfolding listed
+map-listed g f zero = refl
+map-listed g f (suc n) = map-append g (listed f n) (f n ∷ []) ∙ rw (map-listed g f n)
 
 module _ {A : Type 0} (f : ℕ → A) where
   pub length-listed : (n : ℕ) → length (listed f n) ≡ n

@@ -3,6 +3,7 @@
 use mathlib.Core.Bool.{Bool, cond}
 use mathlib.Core.List.{List, [], _∷_}
 use Prim.Native.Nat.{ℕ}
+use lib.ListN.{take}
 use Rattle.rules.specs.declared.BandAnswer.{BandAnswer}
 use Rattle.rules.specs.declared.BandAnswer.the-variants.{Bounds, Refused as NoBand}
 use Rattle.rules.specs.declared.Checked.{Checked}
@@ -14,7 +15,9 @@ use Rattle.rules.specs.declared.OrderFault.the-variants.{Kind, Terms, Qu
 use Rattle.rules.specs.declared.PriceAnswer.{PriceAnswer}
 use Rattle.rules.specs.declared.PriceAnswer.the-variants.{At, Refused as NoPrice}
 use Rattle.rules.specs.declared.Refusal.{Refusal}
-use Rattle.rules.specs.declared.Refusal.the-variants.{FewWords, HeadingKind, HeadingPrice, Length, Order, Argument, Band}
+use Rattle.rules.specs.declared.Refusal.the-variants.{FewWords, HeadingKind, HeadingPrice, Length, Order, Argument, Band, Space}
+use Rattle.rules.specs.declared.SpaceAnswer.{SpaceAnswer}
+use Rattle.rules.specs.declared.SpaceAnswer.the-variants.{Written, Refused as NoWords}
 
 -- What a call answers: the numbers that it gives, or a refusal with its number and order number.
 pub data Answer : Type 0 where
@@ -45,7 +48,7 @@ faultNumber Quantity = 7
 faultNumber Ignored = 8
 
 -- 1 fewer than 5 words; 2 a wrong kind in words 0–4; 3 a price off the grid, or not D < I < H;
--- 4 n above 120, or wrong length; 5–8 at an order; 9 arguments; 11 band.
+-- 4 n above 120, or wrong length; 5–8 at an order; 9 arguments; 11 band; 10 space.
 abbrev pub refusalNumber : Refusal → ℕ
 refusalNumber FewWords = 1
 refusalNumber HeadingKind = 2
@@ -54,6 +57,7 @@ refusalNumber Length = 4
 refusalNumber (Order f k) = faultNumber f
 refusalNumber Argument = 9
 refusalNumber Band = 11
+refusalNumber Space = 10
 
 -- For 5–8, the order number, else 0.
 abbrev pub refusalOrder : Refusal → ℕ
@@ -64,6 +68,7 @@ refusalOrder Length = 0
 refusalOrder (Order f k) = k
 refusalOrder Argument = 0
 refusalOrder Band = 0
+refusalOrder Space = 0
 
 abbrev pub refused : Refusal → Answer
 refused r = refuses (refusalNumber r) (refusalOrder r)
@@ -81,6 +86,11 @@ priceAnswer (NoPrice r) = refused r
 abbrev pub curvesAnswer : CurvesAnswer → Answer
 curvesAnswer (AtPrice demand supply volume) = gives (demand .0 ∷ supply .0 ∷ volume .0 ∷ [])
 curvesAnswer (NoCurves r) = refused r
+
+-- The words written, which are the first of those that the space holds afterwards.
+abbrev pub spaceAnswer : SpaceAnswer → List ℕ → Answer
+spaceAnswer (Written count) space = gives (take count space)
+spaceAnswer (NoWords r) space = refused r
 
 -- The lower bound, then the upper.
 abbrev pub bandAnswer : BandAnswer → Answer

@@ -8,6 +8,7 @@ use lib.Dec.{leb, ltb, eqb}
 use Rattle.rules.specs.Grid.{Scan, overGrid}
 use Rattle.rules.specs.Limits.{piecesAt}
 use Rattle.rules.specs.Sheet.{D, H, I}
+use Rattle.rules.specs.declared.Auctioned.{Auctioned}
 use Rattle.rules.specs.declared.Heading.{Heading}
 use Rattle.rules.specs.declared.Side.{Side}
 use Rattle.rules.specs.declared.Side.the-variants.{Buy, Sell}
@@ -49,6 +50,10 @@ volume v = min (v .demand) (v .supply)
 pub record Auction : Type 0 where
   pub situation : ℕ
   pub price : ℕ
+
+-- The same, as the engine hands it on.
+abbrev pub auctioned : Auctioned → Auction
+auctioned a = record { situation = a .situation; price = a .price .0 }
 
 -- The price from l to r nearest x. Where one of the two is none, it bounds nothing.
 abbrev pub nearest : Option ℕ → Option ℕ → ℕ → ℕ

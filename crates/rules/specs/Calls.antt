@@ -2,12 +2,15 @@
 -- refusals 9 and 10.
 use mathlib.Core.Bool.{Bool, true, false, not, _&&_}
 use mathlib.Core.List.{List, [], _∷_, _++_}
-use Prim.Native.Nat.{ℕ}
+use mathlib.Core.Path.{_≡_}
+use Prim.Native.Nat.{ℕ, _≤_}
 use lib.Dec.{ltb}
 use lib.ListN.{length, drop}
 use Rattle.rules.specs.Answers.{Answer, gives, refuses, Check, row, downwards}
 use Rattle.rules.specs.AuctionPrice.{Level, level, volume}
 use Rattle.rules.specs.Band.{indicativePrice, nextBand, widenedBand}
+use Rattle.rules.specs.Demand3.{roundIn}
+use Rattle.rules.specs.Fills.{Largest}
 use Rattle.rules.specs.Grid.{onGrid}
 use Rattle.rules.specs.Limits.{filed, numbered, standing}
 use Rattle.rules.specs.Opening.{Start, Round, roundOf, firstStart, roundWords, openingBy, roundSpace, openingSpace}
@@ -73,3 +76,17 @@ answer = answerBy firstStanding roundOf
 abbrev pub spaceAfter : Answer → List ℕ → List ℕ
 spaceAfter (gives words) space = words ++ drop (length words) space
 spaceAfter (refuses n k) space = space
+
+-- The call `first round` on the sheet ws: what it answered, with what the lent space held before and holds after.
+pub record FirstRound (ws before after : List ℕ) (answered : Answer) : Type 0 where
+  -- the answer is that of the rules
+  pub answers : answered ≡ answer (firstRound ws (length before))
+  -- and so is all that the space holds: the words written, and beyond them what it held; a refusal writes no word
+  pub holds : after ≡ spaceAfter (answer (firstRound ws (length before))) before
+  -- where the sheet is accepted and the space has the words, the fills that stand in the space meet F1–F4, and every other list of n
+  -- fills that meets them has a smaller total
+  pub filled : checkSheet ws ≡ gives [] → roundSpace (headingOf ws .count) ≤ length before
+      → Largest (headingOf ws)
+      (record { situation = roundIn ws after 0 .situation; price = roundIn ws after 0 .price })
+      (firstStanding ws)
+      (roundIn ws after 0 .fills)

@@ -55,6 +55,12 @@ pub struct Standing {
     pub all_or_none: bool,
 }
 
+// The situation of a round, 0 to 4, and its auction price.
+pub struct Auctioned {
+    pub situation: u32,
+    pub price: Price,
+}
+
 // The heading of a sheet: the band's bounds, the last purchase price, the indicative price and the
 // number of orders.
 pub struct Heading {
@@ -93,6 +99,8 @@ pub enum Refusal {
     Argument,
     // A band that cannot be had.
     Band,
+    // Too few words in the lent space.
+    Space,
 }
 
 impl OrderFault {
@@ -121,6 +129,7 @@ impl Refusal {
             Refusal::Order(fault, _) => fault.number(),
             Refusal::Argument => 9,
             Refusal::Band => 11,
+            Refusal::Space => 10,
         }
     }
 
@@ -136,6 +145,7 @@ impl Refusal {
             Refusal::Order(_, order) => order,
             Refusal::Argument => 0,
             Refusal::Band => 0,
+            Refusal::Space => 0,
         }
     }
 }
@@ -159,6 +169,12 @@ pub enum CurvesAnswer {
         supply: Total,
         volume: Total,
     },
+    Refused(Refusal),
+}
+
+// The answer of a call that writes words into a lent space: how many it wrote, from the space's start.
+pub enum SpaceAnswer {
+    Written(usize),
     Refused(Refusal),
 }
 

@@ -1,0 +1,171 @@
+-- The first round in the lent space. What the round hands back is the rules' first round of the sheet, whose values fit their words; so the
+-- words in front of the space are those of the rules, and they say what the round is: its fills are those that F1–F4 leave.
+use mathlib.Core.Bool.{cond}
+use mathlib.Core.List.{List, [], _++_, map}
+use mathlib.Core.Path.{_≡_, sym, ap, _∙_}
+use Prim.Native.Nat.{ℕ, _+_, _-_, _≤_, _<_}
+use native.Mathlib.Omega.{arith}
+use lib.Dec.{ltb}
+use lib.ListN.{length, take, drop, length-map, length-take, List·getD-map}
+use lib.Seq.{take-at}
+use borrow.Author.Tests.{lt-ltb, le-ltb}
+use Rattle.curves.specs.Limits.{filedIn, remainingIn}
+use Rattle.laws.proofs.Bounds.{FewPieces, FitsWords, round-fits}
+use Rattle.laws.proofs.Fills.{fills-largest}
+use Rattle.laws.proofs.ReadBack.{read-back}
+use Rattle.laws.proofs.Rounds.{remaining-standing, count-orders}
+use Rattle.laws.proofs.Totals.{fills-length}
+use Rattle.rounds.proofs.OneRound.{of-orders}
+use Rattle.rounds.specs.Rounds.{handedBack, withPlaces, ofOrders}
+use Rattle.rounds.specs.declared.Round as declared
+use Rattle.rules.proofs.Accepted.{SoundSheet, accepted-sound}
+use Rattle.rules.specs.Answers.{gives, refuses, row, checkAnswer, refused}
+use Rattle.rules.specs.AuctionPrice.{auction}
+use Rattle.rules.specs.Calls.{firstRound, firstStanding, answerBy, answer, FirstRound}
+use Rattle.rules.specs.Demand3.{roundIn}
+use Rattle.rules.specs.Fills.{Largest}
+use Rattle.rules.specs.Limits.{noOrder, standing}
+use Rattle.rules.specs.Opening.{Round, roundAt, roundOver, roundOf, firstStart, roundWords, roundSpace}
+use Rattle.rules.specs.Sheet.{D, H, headingOf, ordersOf}
+use Rattle.rules.specs.Words.{word}
+use Rattle.rules.specs.declared.Checked.the-variants.{Refused}
+use Rattle.rules.specs.declared.Heading.{Heading}
+use Rattle.rules.specs.declared.Order.{Order}
+use Rattle.rules.specs.declared.Pieces.{Pieces}
+use Rattle.rules.specs.declared.Refusal.{Refusal}
+use Rattle.rules.specs.declared.Standing.{Standing}
+use Rattle.sheet.specs.Reading.{ReadsAs}
+use Rattle.sheet.specs.declared.Reading.{Reading}
+use Rattle.auction.proofs.FirstRound.{remaining-first, own-row, orders-are, count-first, count-is, refused-sheet}
+use Rattle.auction.specs.First.{AcceptedAs, OfSheet}
+
+-- the first round of a sheet, by the rules
+abbrev firstOf : List ℕ → Round
+firstOf ws = roundOf ws (firstStart ws)
+
+-- a part that begins a space, put back with other words
+pub part-first : (before : List ℕ) (size : ℕ) {last words : List ℕ} → last ≡ words
+    → take 0 before ++ (last ++ drop (size - 0) (drop 0 before)) ≡ words ++ drop size before
+part-first before size e = let whole : size - 0 ≡ size = omega arith in rw (e, whole)
+
+-- and it has as many words as were asked for
+pub part-words : (before : List ℕ) {size : ℕ} → size ≤ length before → length (take (size - 0) before) ≡ size
+part-words before {size} enough = simp length-take (omega arith)
+
+-- ---- An accepted sheet
+
+module _ {ws : List ℕ} {h : Heading} {orders : List Order} (a : AcceptedAs ws h orders) where
+  abbrev os : List Standing
+  os = firstStanding ws
+
+  sound : SoundSheet ws
+  sound = accepted-sound ws (a .passes)
+
+  band : D (headingOf ws) ≤ H (headingOf ws)
+  band = omega (arith, sound .heading .above-lower, sound .heading .below-upper)
+
+  fills-count : length (firstOf ws .fills) ≡ headingOf ws .count
+  unfolding roundOf roundAt firstStanding
+  fills-count = fills-length (headingOf ws) (auction (headingOf ws) (firstStart ws .last) os) os ∙ count-first a
+
+  module _ {quantities : List Pieces} (e : quantities ≡ map (λ (o : Order). o .quantity) orders) (r : declared.Round)
+      (given : handedBack r ≡ withPlaces (roundOver h (h .last .0) (standing h (filedIn h orders) (remainingIn h quantities)))) where
+    -- what the round hands back is the rules' first round
+    handed-first : handedBack r ≡ withPlaces (firstOf ws)
+    unfolding roundOf firstStart
+    handed-first = rw (e, remaining-first h orders, orders-are a, a .headed) at given
+
+    pub first-is : ofOrders (h .count) r ≡ firstOf ws
+    first-is = of-orders (h .count) (firstOf ws) r (fills-count ∙ sym (count-is a)) handed-first
+
+  -- each order has its quantity left
+  few-pieces : FewPieces os
+  unfolding firstStanding firstStart
+  few-pieces = record {
+    few = rw (count-first a) (sound .heading .count);
+    pieces = λ k l.
+        let own : k < headingOf ws .count = omega (arith, count-first a) in
+        let filed : k < length (ordersOf ws) = omega (arith, count-orders ws) in
+        let quantity = sound .orders k noOrder own .most in
+        let left = remaining-standing (headingOf ws) (ordersOf ws) (firstStart ws .remaining) k filed
+        ∙ List·getD-map (λ (o : Order). o .quantity .0) (ordersOf ws) k noOrder in
+        rw left quantity;
+  }
+
+  first-fits : FitsWords (firstOf ws)
+  unfolding roundOf firstStanding firstStart
+  first-fits =
+      let s = sound .heading in
+      round-fits (headingOf ws) (headingOf ws .last .0) os band (s .upper .1) (s .indicative .1) (s .last .1) few-pieces
+
+  -- the answer where the sheet is accepted
+  round-answer : (space : ℕ)
+      → answer (firstRound ws space) ≡ cond (ltb space (roundSpace (headingOf ws .count))) (refuses 10 0) (gives (roundWords (firstOf ws)))
+  unfolding answer answerBy
+  round-answer space = own-row a (row 10 (ltb space (roundSpace (headingOf ws .count)))) _
+
+  words-count : length (roundWords (firstOf ws)) ≡ roundSpace (headingOf ws .count)
+  unfolding roundWords
+  words-count = omega (arith, length-map (firstOf ws .fills) (word 14), fills-count)
+
+  -- the fills of the first round are those that F1–F4 leave
+  first-largest : Largest (headingOf ws) (record { situation = firstOf ws .situation; price = firstOf ws .price }) os (firstOf ws .fills)
+  unfolding roundOf roundAt firstStanding
+  first-largest = fills-largest (headingOf ws) (auction (headingOf ws) (firstStart ws .last) os) os band
+
+  -- the words in front of a space say what the first round is
+  first-said : (rest : List ℕ) → roundIn ws (roundWords (firstOf ws) ++ rest) 0 ≡ firstOf ws
+  first-said rest = read-back ws [] rest 0 (firstOf ws) (omega arith) fills-count first-fits
+
+  module _ {before : List ℕ} where
+    -- too few words: nothing is written
+    pub space-too-small : length before < roundSpace (h .count) → FirstRound ws before before (refuses 10 0)
+    space-too-small few =
+        let small : length before < roundSpace (headingOf ws .count) = omega (arith, count-is a) in
+        let refusal : answer (firstRound ws (length before)) ≡ refuses 10 0 =
+        round-answer (length before) ∙ rw (lt-ltb (length before) (roundSpace (headingOf ws .count)) small) in
+        record {
+          answers = sym refusal;
+          holds = rw refusal;
+          filled = λ accepted enough. absurd (omega arith);
+        }
+
+    -- enough words: those of the round stand in front
+    pub round-written : {size : ℕ} {after : List ℕ} → size ≡ roundSpace (h .count) → size ≤ length before
+        → after ≡ roundWords (firstOf ws) ++ drop size before → FirstRound ws before after (gives (take size after))
+    round-written {size} {after} sized enough e =
+        let words : length (roundWords (firstOf ws)) ≡ size = words-count ∙ rw (← count-is a) (sym sized) in
+        let given : answer (firstRound ws (length before)) ≡ gives (roundWords (firstOf ws)) =
+        round-answer (length before) ∙ rw (le-ltb (length before) (roundSpace (headingOf ws .count)) (omega (arith, count-is a))) in
+        record {
+          answers = rw (given, e) (ap gives (take-at (roundWords (firstOf ws)) (drop size before) size words));
+          holds = rw (given, words) e;
+          filled = λ accepted room. rw (e, first-said (drop size before)) first-largest;
+        }
+
+-- what is asked of the round before it is written
+pub fits-its-words : {h : Heading} {orders : List Order} → OfSheet h orders → {quantities : List Pieces}
+    → quantities ≡ map (λ (o : Order). o .quantity) orders → (r : declared.Round)
+    → handedBack r ≡ withPlaces (roundOver h (h .last .0) (standing h (filedIn h orders) (remainingIn h quantities)))
+    → FitsWords (ofOrders (h .count) r)
+fits-its-words s e r given = rw (first-is (s .accepted) e r given) (first-fits (s .accepted))
+
+pub few-of-sheet : {h : Heading} {orders : List Order} → OfSheet h orders → h .count ≤ 120
+few-of-sheet s = rw (s .accepted .headed) (accepted-sound (s .words) (s .accepted .passes) .heading .count)
+
+-- ---- From the reading to the answer
+
+module _ (ws : List ℕ) {r : Reading} (reads : ReadsAs ws r) where
+  -- a refused sheet refuses the call, and nothing is written
+  pub round-refused : {refusal : Refusal} → r .checked ≡ Refused refusal → {space : List ℕ} → FirstRound ws space space (refused refusal)
+  unfolding answer answerBy
+  round-refused {refusal} e {space} =
+      let refusal-is : refused refusal ≡ answer (firstRound ws (length space)) = refused-sheet ws reads e _ _ in
+      record {
+        answers = refusal-is;
+        holds = rw (← refusal-is);
+        filled = λ accepted room.
+            let clash : refused refusal ≡ gives [] = sym (ap checkAnswer e) ∙ reads .checked ∙ accepted in
+            let none : _≡_ {A = ℕ} 0 1 = cc in
+            absurd (omega arith);
+      }

@@ -1,0 +1,39 @@
+-- `first_round` meets its contract: an accepted sheet leaves the call's own row, a refused one its own refusal, and nothing is written.
+use borrow.Author.Needs.{needs}
+use Rattle.auction.proofs.FirstRound.{accepted-as}
+use Rattle.auction.proofs.FirstWritten.{round-refused}
+use Rattle.auction.proofs.first_round.Statement.{statement}
+use Rattle.auction.proofs.first_round.Tie as tie
+
+read-sheet-requires : tie.Need-read-sheet-requires
+read-sheet-requires c κs = search needs
+
+enum-told : tie.Need-enum-told
+enum-told c = search needs
+
+round-in-first-requires : tie.Need-round-in-first-requires
+round-in-first-requires c κs = record { words = c .before .before .before .before .before .before .before .before .args .words .now; accepted = accepted-as _ (c .before .before .before .before .before .read-sheet .ensures) (c .before .enum-told .given .1) }
+
+enum-known-checked : tie.Need-enum-known-checked
+enum-known-checked c = search needs
+
+same-length : tie.Need-same-length
+same-length c = search needs
+
+returns : tie.Need-returns
+returns c = c .before .before .round-in-first .ensures _ (accepted-as _ (c .before .before .before .before .before .before .before .before .read-sheet .ensures) (c .before .before .before .before .enum-told .given .1))
+
+returns-2 : tie.Need-returns-2
+returns-2 c = round-refused (c .before .before .before .before .before .before .before .before .args .words .now) (c .before .before .before .before .before .read-sheet .ensures) (c .before .checked .given .1)
+
+pub first-round-spec : {M : Type 1} → statement M
+first-round-spec =
+    tie.close
+    (tie.spec
+    read-sheet-requires
+    enum-told
+    round-in-first-requires
+    enum-known-checked
+    same-length
+    returns
+    returns-2)

@@ -1,0 +1,6 @@
+-- Laws of ranks, stretches and totals, for the proofs of the functions, and what a caller needs of the fills.
+pub mod Places
+pub mod Queue
+pub mod Stretch
+pub mod Walk
+pub mod Fills

@@ -1,0 +1,128 @@
+-- What a round gives fits the words of a result: its prices are of the grid, its fills are no more than what remained, and its total no
+-- more than 120 orders can have.
+use mathlib.Core.Bool.{Bool, true, false, cond}
+use mathlib.Core.List.{List}
+use mathlib.Core.Option.{none, some}
+use mathlib.Core.Path.{_≡_, refl}
+use Prim.Native.Nat.{ℕ, zero, suc, _*_, _≤_, _<_, max, min, zero-le}
+use native.Mathlib.Nat.{le-trans}
+use native.Mathlib.Omega.{arith}
+use lib.Dec.{leb, ltb}
+use lib.ListN.{length}
+use borrow.Author.Tests.{leb-true}
+use Rattle.laws.proofs.Crossing.{endWithin, balanced, crossedAt, pieceLimit, buys-limit, greatest, maximisers-run, auction-crossed, auction-uncrossed}
+use Rattle.laws.proofs.Fills.{fills-lawful, fills-largest}
+use Rattle.laws.proofs.Orders.{left}
+use Rattle.laws.proofs.Spans.{spanEnd}
+use Rattle.rules.proofs.Scan.{by-test}
+use Rattle.rules.specs.AuctionPrice.{Auction, uncrossed, auction}
+use Rattle.rules.specs.Fills.{fillOf, total, fillsOf, purchasePrice}
+use Rattle.rules.specs.Grid.{lastPrice, movedInto}
+use Rattle.rules.specs.Limits.{sameSide, numbered}
+use Rattle.rules.specs.Lists.{sumTo}
+use Rattle.rules.specs.Opening.{Round, roundAt, roundOver}
+use Rattle.rules.specs.Sheet.{D, H, I}
+use Rattle.rules.specs.declared.Heading.{Heading}
+use Rattle.rules.specs.declared.Side.{Side}
+use Rattle.rules.specs.declared.Side.the-variants.{Buy, Sell}
+use Rattle.rules.specs.declared.Standing.{Standing}
+
+-- ---- The auction
+
+pub record OfGrid (a : Auction) : Type 0 where
+  pub situation : a .situation ≤ 4
+  pub price : a .price ≤ lastPrice
+
+balanced-le : (low high x y last : ℕ) → low ≤ high → balanced low high x y last ≤ high
+balanced-le low high x y last h = omega arith
+
+crossed-le : (h : Heading) (a b x y last : ℕ) → a ≤ b → crossedAt h a b x y last ≤ b
+unfolding crossedAt
+crossed-le h a b x y last run =
+    by-test (λ p. p ≤ b) (leb (max (D h) a) (min (H h) b))
+    (λ e.
+    le-trans (balanced-le (max (D h) a) (min (H h) b) x y last (leb-true (max (D h) a) (min (H h) b) e)) (omega arith))
+    (λ e. balanced-le a b x y last run)
+
+module _ (h : Heading) (last : ℕ) (indicative : I h ≤ lastPrice) (before : last ≤ lastPrice) where
+  uncrossed-on : (x y : ℕ) → x ≤ lastPrice → OfGrid (uncrossed h last (endWithin h Buy x) (endWithin h Sell y))
+  unfolding uncrossed spanEnd
+  uncrossed-on x y on = go (leb (max (D h) 1) (min (H h) x)) (leb (max (D h) y) (min (H h) lastPrice))
+    where
+      go : (t u : Bool)
+          → OfGrid (uncrossed h last (cond t (some (min (H h) x)) none) (cond u (some (max (D h) y)) none))
+      go true true = record { situation = omega arith; price = omega arith }
+      go true false = record { situation = omega arith; price = omega arith }
+      go false true = record { situation = omega arith; price = omega arith }
+      go false false = record { situation = omega arith; price = omega arith }
+
+  pub auction-of-grid : (os : List Standing) → OfGrid (auction h last os)
+  auction-of-grid os = go (greatest h os) refl
+    where
+      go : (v : ℕ) → greatest h os ≡ v → OfGrid (auction h last os)
+      go zero e = rw (auction-uncrossed h os last e) (uncrossed-on (pieceLimit os Buy 1) (pieceLimit os Sell 1) (buys-limit os 1))
+      go (suc v) e =
+          rw (auction-crossed h os last (omega arith))
+          (record {
+            situation = zero-le;
+            price = le-trans (crossed-le h _ _ _ _ last (maximisers-run h os)) (buys-limit os (greatest h os));
+          })
+
+-- ---- The round
+
+-- each value of a round fits the low 28 bits of a word
+pub record FitsWords (r : Round) : Type 0 where
+  pub situation : r .situation < 0x1000_0000
+  pub price : r .price < 0x1000_0000
+  pub purchase : r .purchase < 0x1000_0000
+  pub total : r .total < 0x1000_0000
+  pub fills : (k : ℕ) → k < length (r .fills) → fillOf (r .fills) k < 0x1000_0000
+
+sum-each : (f : ℕ → ℕ) (n : ℕ) → ((j : ℕ) → j < n → f j ≤ 1000000) → sumTo f n ≤ 1000000 * n
+unfolding sumTo
+sum-each f zero each = zero-le
+sum-each f (suc n) each = omega (arith, sum-each f n (λ j l. each j (omega arith)), each n (omega arith))
+
+moved-le : (h : Heading) (p : ℕ) → D h ≤ lastPrice → H h ≤ lastPrice → p ≤ lastPrice → movedInto (D h) (H h) p ≤ lastPrice
+unfolding movedInto
+moved-le h p low high on =
+    by-test (λ q. q ≤ lastPrice) (ltb p (D h)) (λ e. low) (λ e. by-test (λ q. q ≤ lastPrice) (ltb (H h) p) (λ f. high) (λ f. on))
+
+-- the orders of a round: at most 120, each with at most 1,000,000 pieces left
+pub record FewPieces (os : List Standing) : Type 0 where
+  pub few : length os ≤ 120
+  pub pieces : (k : ℕ) → k < length os → left os k ≤ 1000000
+
+module _ (h : Heading) (last : ℕ) (os : List Standing) (band : D h ≤ H h) (upper : H h ≤ lastPrice) (indicative : I h ≤ lastPrice)
+    (before : last ≤ lastPrice) (small : FewPieces os) where
+  fill-le : (a : Auction) (k : ℕ) → k < length os → fillOf (fillsOf h a os) k ≤ 1000000
+  fill-le a k l = le-trans (fills-lawful h a os band .F1-within k l) (small .pieces k l)
+
+  total-le : (a : Auction) (s : Side) → total s os (fillsOf h a os) ≤ 120000000
+  unfolding total
+  total-le a s =
+      let each = sum-each (λ k. cond (sameSide s (numbered os k .side)) (fillOf (fillsOf h a os) k) 0) (length os)
+      (λ j l. by-test (λ x. x ≤ 1000000) (sameSide s (numbered os j .side)) (λ e. fill-le a j l) (λ e. zero-le)) in
+      omega (arith, each, small .few)
+
+  purchase-le : (a : Auction) → OfGrid a → (sum : ℕ) → purchasePrice h a sum ≤ lastPrice
+  purchase-le a on sum =
+      by-test (λ p. p ≤ lastPrice) (leb 1 sum) (λ e. moved-le h (a .price) (omega arith) upper (on .price)) (λ e. zero-le)
+
+  pub round-fits : FitsWords (roundOver h last os)
+  unfolding roundAt
+  round-fits =
+      let a : Auction = auction h last os in
+      let on : OfGrid a = auction-of-grid h last indicative before os in
+      let most : total Buy os (fillsOf h a os) ≤ 120000000 = total-le a Buy in
+      let purchase : purchasePrice h a (total Buy os (fillsOf h a os)) ≤ lastPrice =
+      purchase-le a on (total Buy os (fillsOf h a os)) in
+      record {
+        situation = omega (arith, on .situation);
+        price = omega (arith, on .price);
+        purchase = omega (arith, purchase);
+        total = omega (arith, most);
+        fills = λ k l.
+            let own : k < length os = omega (arith, fills-largest h a os band .each) in
+            omega (arith, fill-le a k own);
+      }

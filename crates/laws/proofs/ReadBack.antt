@@ -1,0 +1,52 @@
+-- The words of a round say what the round is: the value of each word is the one it was written for, as it fits the low 28 bits.
+use mathlib.Core.List.{List, [], _∷_, _++_, map}
+use mathlib.Core.Path.{_≡_, refl, sym, ap, _∙_}
+use Prim.Native.Nat.{ℕ, zero, suc, _+_, _*_, _%_, _<_}
+use native.Mathlib.Omega.{arith}
+use lib.ListN.{length, getD}
+use lib.Seq.{getD-append-add, ext-getD}
+use Rattle.laws.proofs.Bounds.{FitsWords}
+use Rattle.rules.proofs.Lists.{length-listed, getD-listed}
+use Rattle.rules.specs.Demand3.{count, placeOf, roundIn}
+use Rattle.rules.specs.Fills.{fillOf}
+use Rattle.rules.specs.Lists.{listed}
+use Rattle.rules.specs.Opening.{Round, roundWords}
+use Rattle.rules.specs.Words.{word, wordAt}
+
+value-of : (kind value : ℕ) → value < 0x1000_0000 → word kind value % 0x1000_0000 ≡ value
+value-of kind value small = omega arith
+
+mapped-at : (f : ℕ → ℕ) (xs rest : List ℕ) (k : ℕ) → k < length xs → getD (map f xs ++ rest) k 0 ≡ f (getD xs k 0)
+mapped-at f [] rest k l = absurd (omega arith)
+mapped-at f (x ∷ xs) rest zero l = refl
+mapped-at f (x ∷ xs) rest (suc k) l = mapped-at f xs rest k (omega arith)
+
+-- round r after the words before it
+module _ (ws before rest : List ℕ) (r : ℕ) (R : Round) (start : length before ≡ r * (count ws + 4))
+    (each : length (R .fills) ≡ count ws) (fits : FitsWords R) where
+  abbrev words : List ℕ
+  words = before ++ (roundWords R ++ rest)
+
+  word-of : (j : ℕ) → getD words (placeOf ws r j) 0 ≡ getD (roundWords R ++ rest) j 0
+  word-of j = rw (← start) (getD-append-add before (roundWords R ++ rest) j 0)
+
+  fill-of : (k : ℕ) → k < count ws → getD (roundWords R ++ rest) (4 + k) 0 ≡ word 14 (fillOf (R .fills) k)
+  unfolding roundWords
+  fill-of k l =
+      let fifth : 4 + k ≡ suc (suc (suc (suc k))) = omega arith in
+      rw fifth (mapped-at (word 14) (R .fills) rest k (omega arith))
+
+  fills-are : listed (λ k. wordAt words (placeOf ws r (4 + k)) .value) (count ws) ≡ R .fills
+  fills-are =
+      ext-getD 0 _ (R .fills) (length-listed _ (count ws) ∙ sym each)
+      (λ k l.
+      let own : k < count ws = omega (arith, length-listed (λ k. wordAt words (placeOf ws r (4 + k)) .value) (count ws)) in
+      let small : fillOf (R .fills) k < 0x1000_0000 = fits .fills k (omega arith) in
+      getD-listed _ (count ws) k 0 own
+      ∙ ap (λ (w : ℕ). w % 0x1000_0000) (word-of (4 + k) ∙ fill-of k own)
+      ∙ value-of 14 (fillOf (R .fills) k) small)
+
+  pub read-back : roundIn ws words r ≡ R
+  unfolding roundIn roundWords
+  read-back =
+      rw (word-of 0, word-of 1, word-of 2, word-of 3, fills-are, value-of 10 (R .situation) (fits .situation), value-of 11 (R .price) (fits .price), value-of 12 (R .purchase) (fits .purchase), value-of 13 (R .total) (fits .total))

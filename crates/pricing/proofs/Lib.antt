@@ -1,0 +1,2 @@
+-- Laws of the steps to the auction price.
+pub mod Prices

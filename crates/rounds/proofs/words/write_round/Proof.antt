@@ -1,0 +1,89 @@
+-- `write_round` meets its contract: four stores, then the part from the fifth word on is lent for the fills.
+use mathlib.Core.List.{List}
+use mathlib.Core.Path.{sym, _∙_}
+use Prim.Native.Nat.{ℕ, _-_}
+use native.Mathlib.Omega.{arith}
+use lib.ListN.{length, length-set, length-take, length-drop}
+use borrow.Rule.Slice.PartMut.{same-len-mid}
+use borrow.Author.Needs.{needs}
+use Rattle.rules.specs.Opening.{roundWords}
+use Rattle.rules.specs.Words.{word}
+use Rattle.rules.proofs.Lists.{map-listed}
+use Rattle.rounds.specs.Rounds.{fillAt}
+use Rattle.rounds.proofs.Written.{four, round-written, fills-fit}
+use Rattle.rounds.proofs.words.write_round.Statement.{statement}
+use Rattle.rounds.proofs.words.write_round.Tie as tie
+
+word-requires : tie.Need-word-requires
+word-requires c κs = search needs
+
+slice-write-out : tie.Need-slice-write-out
+slice-write-out c = search needs
+
+word-requires-2 : tie.Need-word-requires-2
+word-requires-2 c κs = search needs
+
+slice-write-out-2 : tie.Need-slice-write-out-2
+slice-write-out-2 c = simp length-set (omega arith)
+
+word-requires-3 : tie.Need-word-requires-3
+word-requires-3 c κs = search needs
+
+slice-write-out-3 : tie.Need-slice-write-out-3
+slice-write-out-3 c = simp length-set (omega arith)
+
+cast-word : tie.Need-cast-word
+cast-word c = search needs
+
+word-requires-4 : tie.Need-word-requires-4
+word-requires-4 c κs = search needs
+
+slice-write-out-4 : tie.Need-slice-write-out-4
+slice-write-out-4 c = simp length-set (omega arith)
+
+sub-write-fills : tie.Need-sub-write-fills
+sub-write-fills c = simp length-set (omega arith)
+
+part-write-fills-start : tie.Need-part-write-fills-start
+part-write-fills-start c = simp length-set (omega arith)
+
+part-write-fills-end : tie.Need-part-write-fills-end
+part-write-fills-end c = search needs
+
+write-fills-requires : tie.Need-write-fills-requires
+write-fills-requires c κs = (c .before .before .before .before .before .before .before .before .pre .0, simp (length-take, length-drop, length-set) (omega (arith, c .before .before .before .before .before .before .before .before .pre .1)), fills-fit _ (c .before .before .before .before .before .before .before .before .args .round) (c .before .before .before .before .before .before .before .before .pre .2))
+
+-- the part after the four stores
+stores : (c : tie.After-slice-known2) → List ℕ
+stores c = four (c .before .before .before .before .before .before .before .before .before .before .before .args .out .now) (c .before .before .before .before .before .before .before .before .before .word .result) (c .before .before .before .before .before .before .before .before .word2 .result) (c .before .before .before .before .before .before .before .word3 .result) (c .before .before .before .before .before .word4 .result)
+
+same-length : tie.Need-same-length
+unfolding stores
+same-length c = same-len-mid 4 (length (stores c) - 4) (stores c) (c .before .before .write-fills .last .0) (c .before .before .write-fills .kept .0) ∙ simp length-set
+
+returns : tie.Need-returns
+unfolding roundWords
+returns c =
+    let fills = c .before .before .write-fills .ensures ∙ sym (map-listed (word 14) (fillAt (c .before .before .before .before .before .before .before .before .before .before .before .args .round .fills)) (c .before .before .before .before .before .before .before .before .before .before .before .args .count)) in
+    rw (← c .before .before .before .before .before .before .before .before .before .word .ensures, ← c .before .before .before .before .before .before .before .before .word2 .ensures, ← c .before .before .before .before .before .before .before .word3 .ensures, ← c .before .before .before .before .before .word4 .ensures)
+    (round-written (c .before .before .before .before .before .before .before .before .before .before .before .args .out .now) (c .before .before .before .before .before .before .before .before .before .word .result) (c .before .before .before .before .before .before .before .before .word2 .result) (c .before .before .before .before .before .before .before .word3 .result) (c .before .before .before .before .before .word4 .result) (omega (arith, c .before .before .before .before .before .before .before .before .before .before .before .pre .1)) fills)
+
+pub write-round-spec : {M : Type 1} → statement M
+write-round-spec =
+    tie.close
+    (tie.spec
+    word-requires
+    slice-write-out
+    word-requires-2
+    slice-write-out-2
+    word-requires-3
+    slice-write-out-3
+    cast-word
+    word-requires-4
+    slice-write-out-4
+    sub-write-fills
+    part-write-fills-start
+    part-write-fills-end
+    write-fills-requires
+    same-length
+    returns)

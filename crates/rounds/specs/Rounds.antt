@@ -1,0 +1,42 @@
+-- A round as the engine hands it back, and the rules' round that it stands for.
+use mathlib.Core.List.{List, map}
+use Prim.Native.Nat.{ℕ}
+use lib.ListN.{getD}
+use Rattle.rules.specs.Lists.{listed}
+use Rattle.rules.specs.Opening.{Round as RulesRound, fillPlaces}
+use Rattle.rules.specs.declared.Pieces.{Pieces}
+use Rattle.rounds.specs.declared.Round.{Round}
+
+-- The pieces at fill place k.
+abbrev pub fillAt : List Pieces → ℕ → ℕ
+fillAt fills k = getD fills k (record { 0 = 0 }) .0
+
+-- The round with all its fill places.
+abbrev pub handedBack : Round → RulesRound
+handedBack r = record {
+  situation = r .situation;
+  price = r .price .0;
+  purchase = r .purchase .0;
+  total = r .total .0;
+  fills = map (λ (m : Pieces). m .0) (r .fills);
+}
+
+-- A round of the rules with all 120 fill places, those from n on being 0.
+abbrev pub withPlaces : RulesRound → RulesRound
+withPlaces r = record {
+  situation = r .situation;
+  price = r .price;
+  purchase = r .purchase;
+  total = r .total;
+  fills = fillPlaces r;
+}
+
+-- The round with the fills of its n orders.
+abbrev pub ofOrders : ℕ → Round → RulesRound
+ofOrders n r = record {
+  situation = r .situation;
+  price = r .price .0;
+  purchase = r .purchase .0;
+  total = r .total .0;
+  fills = listed (fillAt (r .fills)) n;
+}
