@@ -3,12 +3,12 @@
 use mathlib.Core.List.{List}
 use mathlib.Core.Option.{Option, none, some}
 use Prim.Native.Nat.{ℕ, zero, suc, _≤_, _<_}
-use lib.ListN.{getD}
 use Rattle.rules.proofs.Grid.{OnGrid}
 use Rattle.rules.specs.AuctionPrice.{curve}
 use Rattle.rules.specs.Grid.{lastPrice, nth}
 use Rattle.rules.specs.declared.Side.{Side}
 use Rattle.rules.specs.declared.Standing.{Standing}
+use Rattle.sorting.specs.Sorted.{item}
 use Rattle.curves.specs.declared.ladder.Ladder.{Ladder}
 use Rattle.curves.specs.declared.ladder.PriceFound.{PriceFound}
 use Rattle.curves.specs.declared.ladder.PriceFound.the-variants.{At, Nowhere}
@@ -17,10 +17,6 @@ use Rattle.curves.specs.declared.ladder.PriceFound.the-variants.{At, Now
 abbrev pub priceFound : PriceFound → Option ℕ
 priceFound (At p) = some (p .0)
 priceFound Nowhere = none
-
--- Number j of a list, counted from 0.
-abbrev pub item : List ℕ → ℕ → ℕ
-item xs j = getD xs j 0
 
 -- The sum of the rung before rung j; there is none before the first.
 abbrev pub sumBefore : List ℕ → ℕ → ℕ

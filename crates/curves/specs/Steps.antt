@@ -3,9 +3,8 @@
 use mathlib.Core.Bool.{cond}
 use mathlib.Core.List.{List}
 use mathlib.Core.Path.{_≡_}
-use Prim.Native.Nat.{ℕ, _+_, _/_, _%_, _≤_, _<_}
+use Prim.Native.Nat.{ℕ, _/_, _%_, _≤_, _<_}
 use lib.Dec.{leb}
-use lib.ListN.{length}
 use Rattle.laws.proofs.Places.{placeOf}
 use Rattle.laws.proofs.Rivals.{rivalPlace}
 use Rattle.rules.proofs.Ends.{priceAt}
@@ -20,7 +19,8 @@ use Rattle.rules.specs.declared.Side.the-variants.{Buy, Sell}
 use Rattle.rules.specs.declared.Standing.{Standing}
 use Rattle.rules.specs.declared.Terms.{Terms}
 use Rattle.rules.specs.declared.Terms.the-variants.{WithoutLimit, Limited, Stepper}
-use Rattle.curves.specs.Ladder.{item, Rungs}
+use Rattle.sorting.specs.Sorted.{item, Falling}
+use Rattle.curves.specs.Ladder.{Rungs}
 use Rattle.curves.specs.declared.ladder.Lines.{Lines}
 
 -- ---- Rungs
@@ -43,18 +43,6 @@ addedAt k rung = cond (leb k (rungPlace rung)) (rungPieces rung) 0
 pub record RungOf (s : Side) (o : Standing) (rung : ℕ) : Type 0 where
   pub placed : rungPlace rung ≤ lastPrice
   pub adds : (k : ℕ) → OnGrid k → addedAt k rung ≡ cond (standsAt s (nth s k) o) (o .remaining .0) 0
-
--- The first n numbers fall.
-abbrev pub Falling : List ℕ → ℕ → Type 0
-Falling xs n = (j k : ℕ) → j < k → k < n → item xs k ≤ item xs j
-
--- The number x was put among the first n, which then are m, and nothing was lost; 0 need not be among them.
-pub record Inserted (old : List ℕ) (n x : ℕ) (new : List ℕ) (m : ℕ) : Type 0 where
-  pub long : length new ≡ length old
-  pub more : m ≤ n + 1
-  pub falling : Falling old n → Falling new m
-  pub sums : (f : ℕ → ℕ) → f 0 ≡ 0 → sumTo (λ j. f (item new j)) m ≡ sumTo (λ j. f (item old j)) n + f x
-  pub most : (b : ℕ) → x ≤ b → ((j : ℕ) → j < n → item old j ≤ b) → (j : ℕ) → j < m → item new j ≤ b
 
 -- The rungs of side s of the orders os, the best first.
 pub record Lined (s : Side) (os : List Standing) (r : Lines) : Type 0 where

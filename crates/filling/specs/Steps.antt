@@ -3,8 +3,8 @@
 use mathlib.Core.Bool.{Bool, _&&_, cond}
 use mathlib.Core.List.{List}
 use mathlib.Core.Path.{_≡_}
-use Prim.Native.Nat.{ℕ, _+_, _≤_, _<_, min}
-use lib.Dec.{ltb}
+use Prim.Native.Nat.{ℕ, suc, _+_, _-_, _%_, _≤_, _<_, min}
+use lib.Dec.{ltb, eqb}
 use lib.ListN.{length, getD}
 use Rattle.laws.proofs.Ranks.{rankOf}
 use Rattle.rules.specs.AuctionPrice.{Auction}
@@ -16,6 +16,8 @@ use Rattle.rules.specs.declared.Heading.{Heading}
 use Rattle.rules.specs.declared.Side.{Side}
 use Rattle.rules.specs.declared.Side.the-variants.{Buy, Sell}
 use Rattle.rules.specs.declared.Standing.{Standing}
+use Rattle.sorting.specs.Sorted.{item, Falling}
+use Rattle.filling.specs.declared.queue.Keys.{Keys}
 
 -- The first n places hold f 0, .., f (n - 1).
 abbrev pub Holds : (ℕ → ℕ) → ℕ → List ℕ → Type 0
@@ -53,10 +55,49 @@ bySide bids asks Sell = asks
 unfoldable pub sumAhead : List ℕ → List ℕ → ℕ → ℕ → ℕ
 sumAhead ranks offers rank n = sumTo (λ j. cond (ltb (getD ranks j 0) rank) (getD offers j 0) 0) n
 
+-- What the orders os bring to each side.
+abbrev pub Brought : Heading → Auction → List Standing → List ℕ → List ℕ → Type 0
+Brought h a os bids asks = (s : Side) → Holds (offer h a os s) (length os) (bySide bids asks s)
+
 -- The orders os by rank, and what they bring to each side.
 pub record Queues (h : Heading) (a : Auction) (os : List Standing) (ranks bids asks : List ℕ) : Type 0 where
   pub ranked : Ranked h os ranks
-  pub brought : (s : Side) → Holds (offer h a os s) (length os) (bySide bids asks s)
+  pub brought : Brought h a os bids asks
+
+-- ---- A side's queue
+
+-- The low 7 bits of a rank are the order's number.
+pub record WellRanked (ranks : List ℕ) (n : ℕ) : Type 0 where
+  pub few : n ≤ mostOrders
+  pub before-all : (k : ℕ) → k < n → item ranks k < afterAll
+  pub own-number : (k : ℕ) → k < n → item ranks k % 128 ≡ k
+
+-- The key of an order in its queue: what is left of its rank up to the one after all. One that brings nothing has none.
+unfoldable pub keyOf : ℕ → ℕ → ℕ
+keyOf rank offer = cond (eqb offer 0) 0 (afterAll - rank)
+
+-- The number of the order that has a key.
+unfoldable pub numberIn : ℕ → ℕ
+numberIn key = min ((afterAll - key) % 128) 119
+
+-- What it brings.
+unfoldable pub broughtBy : List ℕ → ℕ → ℕ
+broughtBy offers key = item offers (numberIn key)
+
+-- The keys of the first n orders, the first in rank first: they fall, and no sum over them is lost.
+pub record KeysOf (ranks offers : List ℕ) (n : ℕ) (r : Keys) : Type 0 where
+  pub few : r .count ≤ mostOrders
+  pub falling : Falling (r .keys) (r .count)
+  pub kept : (f : ℕ → ℕ) → f 0 ≡ 0
+      → sumTo (λ j. f (item (r .keys) j)) (r .count) ≡ sumTo (λ k. f (keyOf (item ranks k) (item offers k))) n
+
+-- The queue with the pieces up to each of its orders.
+pub record QueueOf (ranks offers : List ℕ) (n count : ℕ) (keys sums : List ℕ) : Type 0 where
+  pub few : count ≤ mostOrders
+  pub falling : Falling keys count
+  pub kept : (f : ℕ → ℕ) → f 0 ≡ 0
+      → sumTo (λ j. f (item keys j)) count ≡ sumTo (λ k. f (keyOf (item ranks k) (item offers k))) n
+  pub summed : (j : ℕ) → j < count → item sums j ≡ sumTo (λ i. broughtBy offers (item keys i)) (suc j)
 
 -- ---- Totals
 

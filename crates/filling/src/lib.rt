@@ -2,6 +2,7 @@
 // the first of 120 places, as many as the heading says.
 mod ahead;
 mod offers;
+mod queue;
 mod rank;
 mod totals;
 
@@ -85,7 +86,7 @@ pub fn fills_of(heading: Heading, auction: Auctioned, orders: [Standing; 120]) -
     let bids = offers_of(heading, auction, Side::Buy, orders);
     let asks = offers_of(heading, auction, Side::Sell, orders);
     let aheads = aheads_of(count, orders, &ranks, &bids, &asks);
-    let most = most_total(count, &ranks, &bids, &asks);
+    let most = most_total(count, &bids, &asks);
     let whole_bids = wholes_of(count, orders, &bids);
     let whole_asks = wholes_of(count, orders, &asks);
     let total = common_total(count, &aheads, &whole_bids, &whole_asks, most);

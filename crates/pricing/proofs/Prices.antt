@@ -8,7 +8,8 @@ use Prim.Native.Nat.{ℕ, zero, suc, _+_, _-_, _/_, _≤_, _<_, max, min, zero-l
 use native.Mathlib.Omega.{arith}
 use lib.Dec.{leb}
 use borrow.Author.Tests.{leb-true, leb-false, le-leb, lt-leb}
-use Rattle.curves.specs.Ladder.{item, sumBefore, RungsOf}
+use Rattle.sorting.specs.Sorted.{item}
+use Rattle.curves.specs.Ladder.{sumBefore, RungsOf}
 use Rattle.laws.proofs.Best.{place, nth-place, place-on}
 use Rattle.laws.proofs.Crossing.{pieceLimit, greatest, endWithin, balanced, crossedAt, auction-crossed, auction-uncrossed}
 use Rattle.laws.proofs.Reach.{reach, best-reach}

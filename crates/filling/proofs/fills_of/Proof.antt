@@ -6,7 +6,7 @@ use lib.ListN.{length, take}
 use Rattle.rules.specs.AuctionPrice.{auctioned}
 use Rattle.filling.proofs.Fills.{fills-made}
 use Rattle.filling.proofs.Places.{taken-count}
-use Rattle.filling.proofs.Queue.{queues-laid-out, sides-laid-out}
+use Rattle.filling.proofs.ByRank.{queues-laid-out, sides-laid-out}
 use borrow.Author.Needs.{needs}
 use Rattle.filling.proofs.fills_of.Statement.{statement}
 use Rattle.filling.proofs.fills_of.Tie as tie
@@ -47,7 +47,7 @@ returns c =
     let sold = walked .before .before .before .before in
     let bought = sold .before .before in
     let most = bought .before .before in
-    let ahead = most .before .before .before .before in
+    let ahead = most .before .before .before in
     let asked = ahead .before .before .before .before in
     let bid = asked .before in
     let ranked = bid .before in
@@ -62,7 +62,7 @@ returns c =
     let held = ahead .aheads-of .ensures h x queues in
     let sides =
     sides-laid-out queues (h .count) (most .most-total .result) (ahead .aheads-of .result)
-    (bought .wholes-of .result) (sold .wholes-of2 .result) all held (most .most-total .ensures h x os all queues)
+    (bought .wholes-of .result) (sold .wholes-of2 .result) all held (most .most-total .ensures h x os all (queues .brought))
     (bought .wholes-of .ensures) (sold .wholes-of2 .ensures) in
     fills-made h x os (walked .common-total .ensures h x os sides) (c .handed-out .ensures held)
 

@@ -1,4 +1,4 @@
--- `ahead_on` meets its contract: the offers of the side are taken.
+-- `ahead_on` meets its contract: on either side what is ahead in that side's queue.
 use borrow.Author.Needs.{needs}
 use Rattle.filling.proofs.ahead.ahead_on.Statement.{statement}
 use Rattle.filling.proofs.ahead.ahead_on.Tie as tie
@@ -6,22 +6,22 @@ use Rattle.filling.proofs.ahead.ahead_on.Tie as tie
 enum-told : tie.Need-enum-told
 enum-told c = search needs
 
-ahead-of-requires : tie.Need-ahead-of-requires
-ahead-of-requires c κs = search needs
+ahead-in-requires : tie.Need-ahead-in-requires
+ahead-in-requires c κs = search needs
 
 enum-told-2 : tie.Need-enum-told-2
 enum-told-2 c = search needs
 
-ahead-of-requires-2 : tie.Need-ahead-of-requires-2
-ahead-of-requires-2 c κs = search needs
+ahead-in-requires-2 : tie.Need-ahead-in-requires-2
+ahead-in-requires-2 c κs = search needs
 
 returns : tie.Need-returns
-returns c = rw (c .before .enum-told .given .1) (c .ahead-of .ensures)
+returns c = λ ranks bids asks n buys sells r top. rw (c .before .enum-told .given .1) (c .ahead-in .ensures ranks bids n buys r top)
 
 returns-2 : tie.Need-returns-2
-returns-2 c = rw (c .before .enum-told2 .given .1) (c .ahead-of2 .ensures)
+returns-2 c = λ ranks bids asks n buys sells r top. rw (c .before .enum-told2 .given .1) (c .ahead-in2 .ensures ranks asks n sells r top)
 
 pub ahead-on-spec : {M : Type 1} → statement M
 ahead-on-spec =
     tie.close
-    (tie.spec enum-told ahead-of-requires enum-told-2 ahead-of-requires-2 returns returns-2)
+    (tie.spec enum-told ahead-in-requires enum-told-2 ahead-in-requires-2 returns returns-2)

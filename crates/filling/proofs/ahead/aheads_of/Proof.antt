@@ -1,28 +1,34 @@
 -- `aheads_of` meets its contract. The invariant, `Kept`: the first i places hold the sums of the offers with a lower rank on the side of
--- their orders. The measure is the number of orders left.
+-- their orders, where each rank ends in its order's number. The measure is the number of orders left.
 use mathlib.Core.Path.{_≡_, _∙_}
-use Prim.Native.Nat.{_-_, min}
+use Prim.Native.Nat.{_-_, _≤_, min}
 use native.Mathlib.Omega.{arith}
-use lib.ListN.{length, getD}
-use Rattle.filling.proofs.Places.{taken-count, Kept, kept-none, kept-more, kept-all}
-use Rattle.filling.proofs.Queue.{aheads-held}
-use Rattle.filling.specs.Steps.{bySide, sumAhead}
+use lib.ListN.{length, getD, take}
 use Rattle.rules.proofs.Tests.{tests}
+use Rattle.filling.proofs.Places.{taken-count, Kept, kept-none, kept-more, kept-all}
+use Rattle.filling.proofs.ByRank.{well-ranked, aheads-held}
+use Rattle.filling.specs.Steps.{bySide, sumAhead, WellRanked}
 use Rattle.filling.proofs.ahead.aheads_of.Statement.{statement}
 use Rattle.filling.proofs.ahead.aheads_of.Tie as tie
 
 abbrev Inv-loop : tie.InvT-loop
-Inv-loop count ranks bids asks orders n aheads₀ i₀ aheads i =
-    Kept (λ o k x. x ≡ sumAhead ranks (bySide bids asks (o .side)) (getD ranks k 0) (min count 120)) orders count n aheads i
+Inv-loop count ranks bids asks orders n buyers bid-keys bid-sums sellers ask-keys ask-sums aheads₀ i₀ aheads i =
+    Kept (λ o k x. WellRanked ranks (min count 120) → x ≡ sumAhead ranks (bySide bids asks (o .side)) (getD ranks k 0) (min count 120)) orders count n aheads i
 
 abbrev μ-loop : tie.MeasureT-loop
-μ-loop count ranks bids asks orders n aheads₀ i₀ aheads i = n - i
+μ-loop count ranks bids asks orders n buyers bid-keys bid-sums sellers ask-keys ask-sums aheads₀ i₀ aheads i = n - i
 
 placed-requires : tie.Need-placed-requires Inv-loop μ-loop
 placed-requires c κs = search tests
 
+queue-of-requires : tie.Need-queue-of-requires Inv-loop μ-loop
+queue-of-requires c κs = search tests
+
+queue-of-requires-2 : tie.Need-queue-of-requires-2 Inv-loop μ-loop
+queue-of-requires-2 c κs = search tests
+
 loop-holds : tie.Need-loop-holds Inv-loop μ-loop
-loop-holds c = kept-none _ _ _ (c .placed .ensures)
+loop-holds c = kept-none _ _ _ (c .before .before .before .before .before .before .placed .ensures)
 
 mul-order : tie.Need-mul-order Inv-loop μ-loop
 mul-order c = search tests
@@ -52,14 +58,22 @@ loop-less : tie.Need-loop-less Inv-loop μ-loop
 loop-less c = search tests
 
 loop-again : tie.Need-loop-again Inv-loop μ-loop
-loop-again c = kept-more _ (c .before .before .before .before .loop .inv) (c .before .before .before .loop-test .taken) (c .ahead-on .ensures)
+loop-again c =
+    let so = c .before .before .before .before .before .before .before .before .loop .inv in
+    kept-more _ so (c .before .before .before .before .before .before .before .loop-test .taken)
+    (λ w.
+    let own = w .before-all (c .before .before .before .before .before .before .before .before .loop .i) (omega (arith, so .places, c .before .before .before .before .before .before .before .loop-test .taken)) in
+    c .ahead-on .ensures _ _ _ _ (c .before .before .before .before .before .before .before .before .before .before .before .before .before .before .queue-of .ensures) (c .before .before .before .before .before .before .before .before .before .before .before .before .before .queue-of2 .ensures) w (omega arith))
 
 returns : tie.Need-returns Inv-loop μ-loop
 returns c =
     let so = c .before .loop .inv in
-    let long : length (c .before .before .before .args .t2) ≡ 120 = search tests in
-    let few = taken-count _ _ (so .places) long in
-    λ h a q. aheads-held q (few ∙ so .places) (c .before .loop .aheads) (omega (arith, few, so .places)) (kept-all _ so long (c .loop-test .left))
+    let long : length (c .before .before .before .before .before .before .before .before .before .args .t2) ≡ 120 = search tests in
+    let few = taken-count (c .before .before .before .before .before .before .before .before .before .args .t2) (c .before .before .before .before .before .before .before .before .before .args .count) (so .places) long in
+    λ h a q.
+    let all = few ∙ so .places in
+    let most : length (take (c .before .before .before .before .before .before .before .before .before .args .count) (c .before .before .before .before .before .before .before .before .before .args .t2)) ≤ 120 = omega (arith, few, so .places) in
+    aheads-held q all (c .before .loop .aheads) most (λ k l. kept-all _ so long (c .loop-test .left) k l (well-ranked q all most))
 
 pub aheads-of-spec : {M : Type 1} → statement M
 aheads-of-spec =
@@ -68,6 +82,8 @@ aheads-of-spec =
     Inv-loop
     μ-loop
     placed-requires
+    queue-of-requires
+    queue-of-requires-2
     loop-holds
     mul-order
     array-copy-out-order

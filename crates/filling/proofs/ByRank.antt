@@ -1,5 +1,5 @@
--- The orders of a side by rank: the offers with a lower rank than an order's are what the rules count ahead of it, and all have a
--- lower rank than the one after all.
+-- The orders of a side by rank: the offers with a lower rank than an order's are what the rules count ahead of it, and all of them together
+-- are what the side offers.
 use mathlib.Core.Bool.{Bool, true, false, _&&_, cond}
 use mathlib.Core.List.{List}
 use mathlib.Core.Path.{_≡_, refl, ap, _∙_}
@@ -8,7 +8,6 @@ use native.Mathlib.Numerals.{add-one}
 use native.Mathlib.Omega.{arith}
 use lib.Dec.{ltb}
 use lib.ListN.{length, getD}
-use borrow.Author.Tests.{lt-ltb}
 use Rattle.laws.proofs.Orders.{left, side, el}
 use Rattle.laws.proofs.Places.{same-test}
 use Rattle.laws.proofs.Priority.{side-sym}
@@ -23,37 +22,35 @@ use Rattle.rules.specs.declared.Heading.{Heading}
 use Rattle.rules.specs.declared.Side.{Side}
 use Rattle.rules.specs.declared.Side.the-variants.{Buy, Sell}
 use Rattle.rules.specs.declared.Standing.{Standing}
-use Rattle.filling.specs.Steps.{Holds, afterAll, Ranked, offer, wholeFrom, bySide, sumAhead, Queues, BothSides}
+use Rattle.filling.specs.Steps.{Holds, Ranked, offer, wholeFrom, bySide, sumAhead, Brought, Queues, WellRanked, BothSides}
 
--- ---- The sum of the offers with a lower rank
+-- ---- What a side's orders bring
 
 -- the sum of the first i of n offers, which has room
-pub record SummedUp (ranks offers : List ℕ) (rank count n sum i : ℕ) : Type 0 where
+pub record BroughtUp (offers : List ℕ) (count n sum i : ℕ) : Type 0 where
   pub places : n ≡ min count mostOrders
   pub few : i ≤ n
-  pub so-far : sum ≡ sumAhead ranks offers rank i
+  pub so-far : sum ≡ sumTo (λ j. getD offers j 0) i
   pub room : sum ≤ 4294967295 * i
 
-pub summed-none : (ranks offers : List ℕ) (rank count : ℕ) {n : ℕ} → n ≡ min count mostOrders
-    → SummedUp ranks offers rank count n 0 0
-unfolding sumAhead sumTo
-summed-none ranks offers rank count e = record { places = e; few = zero-le; so-far = refl; room = zero-le }
+pub brought-none : (offers : List ℕ) (count : ℕ) {n : ℕ} → n ≡ min count mostOrders → BroughtUp offers count n 0 0
+unfolding sumTo
+brought-none offers count e = record { places = e; few = zero-le; so-far = refl; room = zero-le }
 
-module _ {ranks offers : List ℕ} {rank count n sum i : ℕ} (so : SummedUp ranks offers rank count n sum i) where
-  pub summed-more : {x : ℕ} → i < n → x ≡ cond (ltb (getD ranks i 0) rank) (getD offers i 0) 0 → x ≤ 4294967295
-      → SummedUp ranks offers rank count n (sum + x) (i + 1)
-  unfolding sumAhead sumTo
-  summed-more {x} more e most = record {
+module _ {offers : List ℕ} {count n sum i : ℕ} (so : BroughtUp offers count n sum i) where
+  pub brought-more : {x : ℕ} → i < n → x ≡ getD offers i 0 → x ≤ 4294967295 → BroughtUp offers count n (sum + x) (i + 1)
+  unfolding sumTo
+  brought-more {x} more e most = record {
     places = so .places;
     few = omega arith;
     so-far = rw (add-one i, ← e, ← so .so-far);
     room = omega (arith, so .room);
   }
 
-  pub summed-all : n ≤ i → sum ≡ sumAhead ranks offers rank (min count mostOrders)
-  summed-all done =
+  pub brought-all : n ≤ i → sum ≡ sumTo (λ j. getD offers j 0) (min count mostOrders)
+  brought-all done =
       let last : i ≡ min count mostOrders = omega (arith, so .places, so .few) in
-      so .so-far ∙ ap (sumAhead ranks offers rank) last
+      so .so-far ∙ ap (sumTo (λ j. getD offers j 0)) last
 
 -- ---- By rank
 
@@ -94,18 +91,18 @@ module _ {h : Heading} {a : Auction} {os : List Standing} {ranks bids asks : Lis
     unfolding sumAhead ahead
     ahead-by-rank few k l = rw (← all) (sum-same _ _ n (λ j b. same-part few j k b l))
 
-    offered-by-rank : (s : Side) → sumAhead ranks (bySide bids asks s) afterAll m ≡ offered h a os s
-    unfolding sumAhead offered
-    offered-by-rank s = rw (← all) (sum-same _ _ n (λ j b. rw (lt-ltb _ _ (q .ranked j b .1)) (q .brought s j b)))
+    -- a rank ends in the order's number
+    pub well-ranked : n ≤ mostOrders → WellRanked ranks m
+    well-ranked few = record {
+      few = rw (← all) few;
+      before-all = λ k l. q .ranked k (rw all l) .1;
+      own-number = λ k l. rw (q .ranked k (rw all l) .0) (omega arith);
+    }
 
     pub aheads-held : (aheads : List ℕ) → n ≤ mostOrders
         → ((k : ℕ) → k < n → getD aheads k 0 ≡ sumAhead ranks (bySide bids asks (side os k)) (getD ranks k 0) m)
         → Holds (ahead h a os) n aheads
     aheads-held aheads few sums k l = sums k l ∙ ahead-by-rank few k l
-
-    pub most-offered : {most bought sold : ℕ} → bought ≡ sumAhead ranks bids afterAll m → sold ≡ sumAhead ranks asks afterAll m
-        → most ≡ min bought sold → most ≡ min (offered h a os Buy) (offered h a os Sell)
-    most-offered e f g = g ∙ rw (e ∙ offered-by-rank Buy, f ∙ offered-by-rank Sell)
 
   -- the stretches of both sides, from what must not be split of their offers
   pub sides-laid-out : (count most : ℕ) (aheads wholeBids wholeAsks : List ℕ) → n ≡ min count mostOrders
@@ -130,3 +127,12 @@ queues-laid-out h a os ranks bids asks ranked bid ask = record { ranked = ranked
     each : (s : Side) → Holds (offer h a os s) (length os) (bySide bids asks s)
     each Buy = bid
     each Sell = ask
+
+module _ (h : Heading) (a : Auction) (os : List Standing) {bids asks : List ℕ} (given : Brought h a os bids asks) {m : ℕ} (all : length os ≡ m) where
+  offered-is : (s : Side) → sumTo (λ j. getD (bySide bids asks s) j 0) m ≡ offered h a os s
+  unfolding offered
+  offered-is s = rw (← all) (sum-same _ _ (length os) (λ j l. given s j l))
+
+  pub most-offered : {most bought sold : ℕ} → bought ≡ sumTo (λ j. getD bids j 0) m → sold ≡ sumTo (λ j. getD asks j 0) m
+      → most ≡ min bought sold → most ≡ min (offered h a os Buy) (offered h a os Sell)
+  most-offered e f g = g ∙ rw (e ∙ offered-is Buy, f ∙ offered-is Sell)

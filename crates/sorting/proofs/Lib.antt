@@ -1,0 +1,2 @@
+-- Laws of putting a number among others.
+pub mod Moving
