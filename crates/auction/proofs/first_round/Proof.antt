@@ -12,7 +12,12 @@ enum-told : tie.Need-enum-told
 enum-told c = search needs
 
 round-in-first-requires : tie.Need-round-in-first-requires
-round-in-first-requires c κs = record { words = c .before .before .before .before .before .before .before .before .args .words .now; accepted = accepted-as _ (c .before .before .before .before .before .read-sheet .ensures) (c .before .enum-told .given .1) }
+round-in-first-requires c κs =
+    let read = c .before .before .before .before .before in
+    record {
+      words = read .before .before .before .args .words .now;
+      accepted = accepted-as _ (read .read-sheet .ensures) (c .before .enum-told .given .1);
+    }
 
 enum-known-checked : tie.Need-enum-known-checked
 enum-known-checked c = search needs
@@ -21,10 +26,15 @@ same-length : tie.Need-same-length
 same-length c = search needs
 
 returns : tie.Need-returns
-returns c = c .before .before .round-in-first .ensures _ (accepted-as _ (c .before .before .before .before .before .before .before .before .read-sheet .ensures) (c .before .before .before .before .enum-told .given .1))
+returns c =
+    let told = c .before .before .before .before in
+    let read = told .before .before .before .before in
+    c .before .before .round-in-first .ensures _ (accepted-as _ (read .read-sheet .ensures) (told .enum-told .given .1))
 
 returns-2 : tie.Need-returns-2
-returns-2 c = round-refused (c .before .before .before .before .before .before .before .before .args .words .now) (c .before .before .before .before .before .read-sheet .ensures) (c .before .checked .given .1)
+returns-2 c =
+    let read = c .before .before .before .before .before in
+    round-refused (read .before .before .before .args .words .now) (read .read-sheet .ensures) (c .before .checked .given .1)
 
 pub first-round-spec : {M : Type 1} → statement M
 first-round-spec =

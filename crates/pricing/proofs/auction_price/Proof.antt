@@ -18,10 +18,13 @@ greatest-volume-requires c κs = search needs
 
 add-t23 : tie.Need-add-t23
 add-t23 c =
-    let d = c .before .before .before .before .before .before .before .before .before .before .before .ladder-of .ensures in
-    let s = c .before .before .before .before .before .before .before .before .before .before .ladder-of2 .ensures in
-    let v = c .before .greatest-volume .ensures (c .before .before .before .before .before .before .before .before .before .before .before .before .args .heading) _ d s in
-    search (tests, v, volume-most (c .before .before .before .before .before .before .before .before .before .before .before .before .args .heading) _ d s, d .room)
+    let volume = c .before in
+    let sells = volume .before .before .before .before .before .before .before .before .before in
+    let buys = sells .before in
+    let d = buys .ladder-of .ensures in
+    let s = sells .ladder-of2 .ensures in
+    let h = buys .before .args .heading in
+    search (tests, volume .greatest-volume .ensures h _ d s, volume-most h _ d s, d .room)
 
 piece-limit-requires : tie.Need-piece-limit-requires
 piece-limit-requires c κs = search needs
@@ -34,10 +37,16 @@ uncrossed-price-requires c κs = search needs
 
 returns : tie.Need-returns
 returns c =
-    let d = c .before .before .before .before .before .before .before .before .before .before .before .before .before .before .before .before .before .before .before .before .ladder-of .ensures in
-    let s = c .before .before .before .before .before .before .before .before .before .before .before .before .before .before .before .before .before .before .before .ladder-of2 .ensures in
-    let v = c .before .before .before .before .before .before .before .before .before .before .greatest-volume .ensures (c .before .before .before .before .before .before .before .before .before .before .before .before .before .before .before .before .before .before .before .before .before .args .heading) _ d s in
-    c .uncrossed-price .ensures ∙ nothing-carried _ _ _ v (c .before .before .before .before .before .before .piece-limit .ensures _ d) (c .before .before .before .piece-limit2 .ensures _ s) (c .before .if1 .taken)
+    let ask = c .before .before .before in
+    let bid = ask .before .before .before in
+    let volume = bid .before .before .before .before in
+    let sells = volume .before .before .before .before .before .before .before .before .before in
+    let buys = sells .before in
+    let d = buys .ladder-of .ensures in
+    let s = sells .ladder-of2 .ensures in
+    c .uncrossed-price .ensures
+    ∙ nothing-carried _ _ _ (volume .greatest-volume .ensures (buys .before .args .heading) _ d s) (bid .piece-limit .ensures _ d)
+    (ask .piece-limit2 .ensures _ s) (c .before .if1 .taken)
 
 piece-limit-requires-3 : tie.Need-piece-limit-requires-3
 piece-limit-requires-3 c κs = search needs
@@ -50,10 +59,19 @@ crossed-price-requires c κs = search needs
 
 returns-2 : tie.Need-returns-2
 returns-2 c =
-    let d = c .before .before .before .before .before .before .before .before .before .before .before .before .before .before .before .before .before .before .before .before .before .before .before .before .before .before .ladder-of .ensures in
-    let s = c .before .before .before .before .before .before .before .before .before .before .before .before .before .before .before .before .before .before .before .before .before .before .before .before .before .ladder-of2 .ensures in
-    let v = c .before .before .before .before .before .before .before .before .before .before .before .before .before .before .before .before .greatest-volume .ensures (c .before .before .before .before .before .before .before .before .before .before .before .before .before .before .before .before .before .before .before .before .before .before .before .before .before .before .before .args .heading) _ d s in
-    some-carried _ _ _ v (c .before .before .before .before .before .before .before .before .before .before .before .before .piece-limit .ensures _ d) (c .before .before .before .before .before .before .before .before .before .piece-limit2 .ensures _ s) (c .before .before .before .before .before .before .before .if1 .left) (c .before .before .before .before .piece-limit3 .ensures _ s) (c .before .piece-limit4 .ensures _ d) (c .crossed-price .ensures)
+    let to = c .before in
+    let from = to .before .before .before in
+    let tested = from .before .before .before in
+    let ask = tested .before .before in
+    let bid = ask .before .before .before in
+    let volume = bid .before .before .before .before in
+    let sells = volume .before .before .before .before .before .before .before .before .before in
+    let buys = sells .before in
+    let d = buys .ladder-of .ensures in
+    let s = sells .ladder-of2 .ensures in
+    some-carried _ _ _ (volume .greatest-volume .ensures (buys .before .args .heading) _ d s) (bid .piece-limit .ensures _ d)
+    (ask .piece-limit2 .ensures _ s) (tested .if1 .left) (from .piece-limit3 .ensures _ s) (to .piece-limit4 .ensures _ d)
+    (c .crossed-price .ensures)
 
 pub auction-price-spec : {M : Type 1} → statement M
 auction-price-spec =

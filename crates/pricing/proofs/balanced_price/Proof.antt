@@ -22,7 +22,10 @@ greater-requires-3 : tie.Need-greater-requires-3
 greater-requires-3 c κs = search needs
 
 returns : tie.Need-returns
-returns c = rw (c .greater3 .ensures, c .before .lesser3 .ensures, c .before .before .lesser2 .ensures, c .before .before .before .greater2 .ensures, c .before .before .before .before .greater .ensures, c .before .before .before .before .before .lesser .ensures)
+returns c =
+    let r = c .before .before in
+    let l = r .before .before in
+    rw (c .greater3 .ensures, c .before .lesser3 .ensures, r .lesser2 .ensures, r .before .greater2 .ensures, l .greater .ensures, l .before .lesser .ensures)
 
 pub balanced-price-spec : {M : Type 1} → statement M
 balanced-price-spec =

@@ -23,7 +23,14 @@ long : (c : tie.Start) → length (c .args .orders) ≡ 120
 long c = search tests
 
 returns : tie.Need-returns
-returns c = round-is (c .before .before .before .before .before .before .before .args .heading) (c .before .before .before .before .before .before .before .args .last .0) (c .before .before .before .before .before .before .before .args .orders) (c .before .before .before .before .before .before .before .args .remaining) (long (c .before .before .before .before .before .before .before)) (c .before .before .before .before .before .before .limits-in-force .ensures) (c .before .before .before .before .before .auction-price .ensures) (c .before .before .before .before .fills-of .ensures) (c .purchase-price .ensures)
+returns c =
+    let filled = c .before .before .before .before in
+    let priced = filled .before in
+    let stood = priced .before in
+    let start = stood .before in
+    let a = start .args in
+    round-is (a .heading) (a .last .0) (a .orders) (a .remaining) (long start) (stood .limits-in-force .ensures)
+    (priced .auction-price .ensures) (filled .fills-of .ensures) (c .purchase-price .ensures)
 
 pub round-of-spec : {M : Type 1} → statement M
 round-of-spec =

@@ -30,13 +30,30 @@ part-write-round-end : tie.Need-part-write-round-end
 part-write-round-end c = search needs
 
 write-round-requires : tie.Need-write-round-requires
-write-round-requires c κs = (few-of-sheet (c .before .before .before .before .before .before .pre), part-words (c .before .before .before .before .before .before .args .space .now) (c .before .before .before .before .if1 .left), fits-its-words (c .before .before .before .before .before .before .pre) (c .before .before .quantities .ensures) (c .before .round-of .result) (c .before .round-of .ensures))
+write-round-requires c κs =
+    let ran = c .before in
+    let copied = ran .before in
+    let tested = copied .before .before in
+    let start = tested .before .before in (
+      few-of-sheet (start .pre),
+      part-words (start .args .space .now) (tested .if1 .left),
+      fits-its-words (start .pre) (copied .quantities .ensures) (ran .round-of .result) (ran .round-of .ensures),
+    )
 
 same-length : tie.Need-same-length
 same-length c = search needs
 
 returns-2 : tie.Need-returns-2
-returns-2 c = λ ws a. round-written a refl (c .before .before .before .before .before .before .before .if1 .left) (part-first (c .before .before .before .before .before .before .before .before .before .args .space .now) (4 + c .before .before .before .before .before .before .before .before .before .args .heading .count) (c .before .before .write-round .ensures ∙ ap roundWords (first-is a (c .before .before .before .before .before .quantities .ensures) (c .before .before .before .before .round-of .result) (c .before .before .before .before .round-of .ensures))))
+returns-2 c =
+    let wrote = c .before .before in
+    let ran = wrote .before .before in
+    let copied = ran .before in
+    let tested = copied .before .before in
+    let a = tested .before .before .args in
+    λ ws accepted.
+    let first = first-is accepted (copied .quantities .ensures) (ran .round-of .result) (ran .round-of .ensures) in
+    round-written accepted refl (tested .if1 .left)
+    (part-first (a .space .now) (4 + a .heading .count) (wrote .write-round .ensures ∙ ap roundWords first))
 
 pub round-in-first-spec : {M : Type 1} → statement M
 round-in-first-spec =

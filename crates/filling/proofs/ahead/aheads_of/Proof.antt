@@ -59,21 +59,29 @@ loop-less c = search tests
 
 loop-again : tie.Need-loop-again Inv-loop μ-loop
 loop-again c =
-    let so = c .before .before .before .before .before .before .before .before .loop .inv in
-    kept-more _ so (c .before .before .before .before .before .before .before .loop-test .taken)
+    let tested = c .before .before .before .before .before .before .before in
+    let here = tested .before in
+    let sells = here .before .before .before .before .before in
+    let so = here .loop .inv in
+    kept-more _ so (tested .loop-test .taken)
     (λ w.
-    let own = w .before-all (c .before .before .before .before .before .before .before .before .loop .i) (omega (arith, so .places, c .before .before .before .before .before .before .before .loop-test .taken)) in
-    c .ahead-on .ensures _ _ _ _ (c .before .before .before .before .before .before .before .before .before .before .before .before .before .before .queue-of .ensures) (c .before .before .before .before .before .before .before .before .before .before .before .before .before .queue-of2 .ensures) w (omega arith))
+    let own = w .before-all (here .loop .i) (omega (arith, so .places, tested .loop-test .taken)) in
+    c .ahead-on .ensures _ _ _ _ (sells .before .queue-of .ensures) (sells .queue-of2 .ensures) w (omega arith))
+
+long : (c : tie.Start Inv-loop μ-loop) → length (c .args .t2) ≡ 120
+long c = search tests
 
 returns : tie.Need-returns Inv-loop μ-loop
 returns c =
-    let so = c .before .loop .inv in
-    let long : length (c .before .before .before .before .before .before .before .before .before .args .t2) ≡ 120 = search tests in
-    let few = taken-count (c .before .before .before .before .before .before .before .before .before .args .t2) (c .before .before .before .before .before .before .before .before .before .args .count) (so .places) long in
-    λ h a q.
+    let here = c .before in
+    let so = here .loop .inv in
+    let start = here .before .before .before .before .before .before .before .before in
+    let a = start .args in
+    let few = taken-count (a .t2) (a .count) (so .places) (long start) in
+    λ h x q.
     let all = few ∙ so .places in
-    let most : length (take (c .before .before .before .before .before .before .before .before .before .args .count) (c .before .before .before .before .before .before .before .before .before .args .t2)) ≤ 120 = omega (arith, few, so .places) in
-    aheads-held q all (c .before .loop .aheads) most (λ k l. kept-all _ so long (c .loop-test .left) k l (well-ranked q all most))
+    let most : length (take (a .count) (a .t2)) ≤ 120 = omega (arith, few, so .places) in
+    aheads-held q all (here .loop .aheads) most (λ k l. kept-all _ so (long start) (c .loop-test .left) k l (well-ranked q all most))
 
 pub aheads-of-spec : {M : Type 1} → statement M
 aheads-of-spec =

@@ -51,22 +51,41 @@ part-write-fills-end : tie.Need-part-write-fills-end
 part-write-fills-end c = search needs
 
 write-fills-requires : tie.Need-write-fills-requires
-write-fills-requires c κs = (c .before .before .before .before .before .before .before .before .pre .0, simp (length-take, length-drop, length-set) (omega (arith, c .before .before .before .before .before .before .before .before .pre .1)), fills-fit _ (c .before .before .before .before .before .before .before .before .args .round) (c .before .before .before .before .before .before .before .before .pre .2))
+write-fills-requires c κs =
+    let start = c .before .before .before .before .before .before .before .before in (
+      start .pre .0,
+      simp (length-take, length-drop, length-set) (omega (arith, start .pre .1)),
+      fills-fit _ (start .args .round) (start .pre .2),
+    )
 
 -- the part after the four stores
 stores : (c : tie.After-slice-known2) → List ℕ
-stores c = four (c .before .before .before .before .before .before .before .before .before .before .before .args .out .now) (c .before .before .before .before .before .before .before .before .before .word .result) (c .before .before .before .before .before .before .before .before .word2 .result) (c .before .before .before .before .before .before .before .word3 .result) (c .before .before .before .before .before .word4 .result)
+stores c =
+    let fourth = c .before .before .before .before .before in
+    let third = fourth .before .before in
+    let second = third .before in
+    let first = second .before in
+    four (first .before .before .args .out .now) (first .word .result) (second .word2 .result) (third .word3 .result)
+    (fourth .word4 .result)
 
 same-length : tie.Need-same-length
 unfolding stores
-same-length c = same-len-mid 4 (length (stores c) - 4) (stores c) (c .before .before .write-fills .last .0) (c .before .before .write-fills .kept .0) ∙ simp length-set
+same-length c =
+    let wrote = c .before .before .write-fills in
+    same-len-mid 4 (length (stores c) - 4) (stores c) (wrote .last .0) (wrote .kept .0) ∙ simp length-set
 
 returns : tie.Need-returns
 unfolding roundWords
 returns c =
-    let fills = c .before .before .write-fills .ensures ∙ sym (map-listed (word 14) (fillAt (c .before .before .before .before .before .before .before .before .before .before .before .args .round .fills)) (c .before .before .before .before .before .before .before .before .before .before .before .args .count)) in
-    rw (← c .before .before .before .before .before .before .before .before .before .word .ensures, ← c .before .before .before .before .before .before .before .before .word2 .ensures, ← c .before .before .before .before .before .before .before .word3 .ensures, ← c .before .before .before .before .before .word4 .ensures)
-    (round-written (c .before .before .before .before .before .before .before .before .before .before .before .args .out .now) (c .before .before .before .before .before .before .before .before .before .word .result) (c .before .before .before .before .before .before .before .before .word2 .result) (c .before .before .before .before .before .before .before .word3 .result) (c .before .before .before .before .before .word4 .result) (omega (arith, c .before .before .before .before .before .before .before .before .before .before .before .pre .1)) fills)
+    let fourth = c .before .before .before .before .before in
+    let third = fourth .before .before in
+    let second = third .before in
+    let first = second .before in
+    let start = first .before .before in
+    let fills = c .before .before .write-fills .ensures ∙ sym (map-listed (word 14) (fillAt (start .args .round .fills)) (start .args .count)) in
+    rw (← first .word .ensures, ← second .word2 .ensures, ← third .word3 .ensures, ← fourth .word4 .ensures)
+    (round-written (start .args .out .now) (first .word .result) (second .word2 .result) (third .word3 .result) (fourth .word4 .result)
+    (omega (arith, start .pre .1)) fills)
 
 pub write-round-spec : {M : Type 1} → statement M
 write-round-spec =
