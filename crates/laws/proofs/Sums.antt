@@ -42,6 +42,16 @@ sum-longer f m (suc n) h = go (last-or-before (omega arith)) (λ l. sum-longer f
     go (inl e) before = rw e (le-refl _)
     go (inr l) before = omega (arith, before (omega arith))
 
+-- terms that are 0 add nothing
+pub sum-stops : (f : ℕ → ℕ) (m n : ℕ) → m ≤ n → ((j : ℕ) → m ≤ j → j < n → f j ≡ 0) → sumTo f n ≡ sumTo f m
+unfolding sumTo
+sum-stops f m zero l none = let e : m ≡ 0 = omega arith in rw e
+sum-stops f m (suc n) l none = go (last-or-before (omega arith)) (λ h. sum-stops f m n h (λ j a b. none j a (omega arith)))
+  where
+    go : (m ≡ suc n) ⊎ (m < suc n) → (m ≤ n → sumTo f n ≡ sumTo f m) → sumTo f (suc n) ≡ sumTo f m
+    go (inl q) before = rw q
+    go (inr h) before = rw (before (omega arith), none n (omega arith) (omega arith)) (omega arith)
+
 -- the part of k alone
 pub sum-single : (f : ℕ → ℕ) (n k : ℕ) → k < n → ((j : ℕ) → j < n → (j ≡ k → ⊥) → f j ≡ 0) → sumTo f n ≡ f k
 unfolding sumTo
