@@ -6,14 +6,14 @@ use mathlib.Core.Path.{_≡_, refl, sym, ap, _∙_}
 use Prim.Native.Nat.{ℕ, zero, suc, _+_, _-_, _≤_, _<_, min}
 use native.Mathlib.Omega.{arith}
 use lib.ListN.{length, getD, take, set, replicate, length-map, List·getD-map}
-use lib.Seq.{getD-take, take-at, ext-getD}
+use lib.Seq.{getD-take, take-at}
 use borrow.Author.Tests.{le-ltb, lt-ltb}
 use Rattle.curves.proofs.InForce.{first-in-places, at-in-places}
 use Rattle.curves.specs.Limits.{filedIn, remainingIn, inPlaces}
 use Rattle.laws.proofs.Rounds.{length-standing}
 use Rattle.rules.proofs.Accepted.{accepted-sound}
 use Rattle.rules.proofs.Downwards.{Clear, Stops, given-clear, refused-stops, downwards-append}
-use Rattle.rules.proofs.Lists.{length-listed, getD-listed, filled, filled-none, filled-more}
+use Rattle.rules.proofs.Lists.{length-listed, listed-is, filled, filled-none, filled-more}
 use Rattle.rules.specs.Answers.{gives, refuses, Check, row, downwards, checkAnswer, refusalNumber, refusalOrder, refused}
 use Rattle.rules.specs.AuctionPrice.{curve, level}
 use Rattle.rules.specs.Calls.{stepperLimit, curvesAt, onSheet, isStepper, stepper, curvesOf, firstStanding, answerBy, answer}
@@ -39,8 +39,7 @@ use Rattle.auction.specs.First.{AcceptedAs}
 -- the list of f's values over a list
 listed-map : {A B : Type 0} (f : A → B) (d : A) (xs : List A) → listed (λ k. f (getD xs k d)) (length xs) ≡ map f xs
 listed-map f d xs =
-    ext-getD (f d) _ (map f xs) (length-listed _ (length xs) ∙ sym (length-map xs f))
-    (λ i l. getD-listed _ (length xs) i (f d) (rw (length-listed (λ k. f (getD xs k d)) (length xs)) at l) ∙ sym (List·getD-map f xs i d))
+    listed-is _ (length xs) (f d) (map f xs) (length-map xs f) (λ k l. sym (List·getD-map f xs k d))
 
 -- the quantities of the first i places are copied
 pub record Copied (orders : List Order) (quantities : List Pieces) (i : ℕ) : Type 0 where

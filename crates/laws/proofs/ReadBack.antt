@@ -1,12 +1,12 @@
 -- The words of a round say what the round is: the value of each word is the one it was written for, as it fits the low 28 bits.
 use mathlib.Core.List.{List, [], _∷_, _++_, map}
-use mathlib.Core.Path.{_≡_, refl, sym, ap, _∙_}
+use mathlib.Core.Path.{_≡_, refl, ap, _∙_}
 use Prim.Native.Nat.{ℕ, zero, suc, _+_, _*_, _%_, _<_}
 use native.Mathlib.Omega.{arith}
 use lib.ListN.{length, getD}
-use lib.Seq.{getD-append-add, ext-getD}
+use lib.Seq.{getD-append-add}
 use Rattle.laws.proofs.Bounds.{FitsWords}
-use Rattle.rules.proofs.Lists.{length-listed, getD-listed}
+use Rattle.rules.proofs.Lists.{listed-is}
 use Rattle.rules.specs.Demand3.{count, placeOf, roundIn}
 use Rattle.rules.specs.Fills.{fillOf}
 use Rattle.rules.specs.Lists.{listed}
@@ -38,13 +38,10 @@ module _ (ws before rest : List ℕ) (r : ℕ) (R : Round) (start : length befor
 
   fills-are : listed (λ k. wordAt words (placeOf ws r (4 + k)) .value) (count ws) ≡ R .fills
   fills-are =
-      ext-getD 0 _ (R .fills) (length-listed _ (count ws) ∙ sym each)
+      listed-is _ (count ws) 0 (R .fills) each
       (λ k l.
-      let own : k < count ws = omega (arith, length-listed (λ k. wordAt words (placeOf ws r (4 + k)) .value) (count ws)) in
-      let small : fillOf (R .fills) k < 0x1000_0000 = fits .fills k (omega arith) in
-      getD-listed _ (count ws) k 0 own
-      ∙ ap (λ (w : ℕ). w % 0x1000_0000) (word-of (4 + k) ∙ fill-of k own)
-      ∙ value-of 14 (fillOf (R .fills) k) small)
+      ap (λ (w : ℕ). w % 0x1000_0000) (word-of (4 + k) ∙ fill-of k l)
+      ∙ value-of 14 (fillOf (R .fills) k) (fits .fills k (omega arith)))
 
   pub read-back : roundIn ws words r ≡ R
   unfolding roundIn roundWords

@@ -6,7 +6,7 @@ use Prim.Native.Nat.{ℕ, _-_, _≤_, _<_, min}
 use native.Mathlib.Decide.{decLe}
 use native.Mathlib.Omega.{arith}
 use lib.ListN.{length, getD, take, replicate, length-take, List·getD-map, List·getD-append}
-use lib.Seq.{take-all, ext-getD}
+use lib.Seq.{take-all}
 use Rattle.curves.proofs.InForce.{first-in-places}
 use Rattle.curves.specs.Limits.{filedIn, remainingIn, inPlaces}
 use Rattle.filling.proofs.Fills.{total-given, fills-given}
@@ -14,11 +14,10 @@ use Rattle.filling.specs.Fills.{filledWith}
 use Rattle.filling.specs.declared.Filled.{Filled}
 use Rattle.laws.proofs.Rounds.{length-standing}
 use Rattle.laws.proofs.Totals.{fills-length, total-is}
-use Rattle.rules.proofs.Lists.{length-listed, getD-listed}
+use Rattle.rules.proofs.Lists.{listed-is}
 use Rattle.rules.specs.AuctionPrice.{Auction, auctioned, auction}
 use Rattle.rules.specs.Fills.{largestTotal, purchasePrice}
 use Rattle.rules.specs.Limits.{standing}
-use Rattle.rules.specs.Lists.{listed}
 use Rattle.rules.specs.Opening.{Round as RulesRound, roundAt, roundOver}
 use Rattle.rules.specs.Sheet.{mostOrders}
 use Rattle.rules.specs.declared.Auctioned.{Auctioned}
@@ -80,7 +79,7 @@ of-orders n R r each e =
       ap (λ (x : RulesRound). x .price) e,
       ap (λ (x : RulesRound). x .purchase) e,
       ap (λ (x : RulesRound). x .total) e,
-      fills-are,
+      listed-is (fillAt (r .fills)) n 0 (R .fills) each fill-is,
     )
   where
     fill-is : (k : ℕ) → k < n → fillAt (r .fills) k ≡ getD (R .fills) k 0
@@ -88,10 +87,3 @@ of-orders n R r each e =
         sym (List·getD-map (λ (m : Pieces). m .0) (r .fills) k (record { 0 = 0 }))
         ∙ ap (λ (x : RulesRound). getD (x .fills) k 0) e
         ∙ List·getD-append (R .fills) (replicate (mostOrders - length (R .fills)) 0) 0 k (omega arith)
-
-    fills-are : listed (fillAt (r .fills)) n ≡ R .fills
-    fills-are =
-        ext-getD 0 (listed (fillAt (r .fills)) n) (R .fills) (length-listed (fillAt (r .fills)) n ∙ sym each)
-        (λ k l.
-        let own : k < n = omega (arith, length-listed (fillAt (r .fills)) n) in
-        getD-listed (fillAt (r .fills)) n k 0 own ∙ fill-is k own)

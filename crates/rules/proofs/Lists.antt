@@ -1,4 +1,4 @@
--- Laws of listed values: equal ones, a function of them, their number, the value at a place, and an array of m places that a loop fills from the front.
+-- Laws of listed values: equal ones, a function of them, their number, the value at a place, a list of such values, and an array of m places that a loop fills from the front.
 use mathlib.Core.List.{List, [], _∷_, _++_, map, map-append, append-assoc}
 use mathlib.Core.Path.{_≡_, refl, sym, ap, _∙_}
 use Prim.Native.Nat.{ℕ, zero, suc, _+_, _-_, _≤_, _<_}
@@ -6,7 +6,7 @@ use native.Mathlib.Decide.{decLe}
 use native.Mathlib.Numerals.{add-one}
 use native.Mathlib.Omega.{arith}
 use lib.ListN.{length, getD, set, replicate, length-append, List·getD-append}
-use lib.Seq.{set-at, getD-at}
+use lib.Seq.{set-at, getD-at, ext-getD}
 use Rattle.rules.specs.Lists.{listed}
 
 pub listed-same : {A : Type 0} (f g : ℕ → A) (n : ℕ) → ((j : ℕ) → j < n → f j ≡ g j) → listed f n ≡ listed g n
@@ -37,6 +37,12 @@ module _ {A : Type 0} (f : ℕ → A) where
       go before (no l) =
           let e : n ≡ i = omega (arith, l) in
           getD-at (listed f n) (f n) [] d i (length-listed n ∙ e) ∙ ap f e
+
+  -- a list whose items are f's values
+  pub listed-is : (n : ℕ) (d : A) (xs : List A) → length xs ≡ n → ((k : ℕ) → k < n → f k ≡ getD xs k d) → listed f n ≡ xs
+  listed-is n d xs each same =
+      ext-getD d (listed f n) xs (length-listed n ∙ sym each)
+      (λ k l. let own : k < n = omega (arith, length-listed n) in getD-listed n k d own ∙ same k own)
 
   -- an array of m places: the first n are f's, the others hold x
   abbrev pub filled : A → ℕ → ℕ → List A
