@@ -6,7 +6,8 @@ usage: store.py KIND SEED LINES ANSWERS     KIND as in `reference sheets KIND CO
 Of the random lines it takes the first 200 of small sheets (up to 30 orders), the first 40 of large ones (100 orders and more)
 and the first 8 of each refusal (up to 40 orders), and appends them to the file LINES and the reference implementation's answers
 to the file ANSWERS, each under a line that says where they are from. Of small first rounds it takes 400 of situation 0 and 160
-of each other, and 40 for which the space is too small.
+of each other, of small openings 120 of one round with each ending, 240 of two and 300 of three or more, of large ones 40 of up
+to 9 rounds, 3 of 10 and more and 3 of 60, and of both calls 40 for which the space is too small.
 """
 import collections
 import pathlib
@@ -24,26 +25,47 @@ def reference(*words, given=None):
     return subprocess.run(command, input=given, capture_output=True, text=True, check=True).stdout
 
 
-count = {"round": "12000"}.get(kind, "3000")
+count = {"round": "12000", "opening": "20000"}.get(kind, "3000")
 lines = reference("sheets", kind, count, seed)
 answers = reference("calls", given=lines).splitlines()
 
 MOST = {"small": 200, "large": 40}
 if kind == "round":
     MOST = {"situation 0": 400, "large": 40, "10": 40} | {f"situation {s}": 160 for s in range(1, 5)}
+if kind == "opening":
+    small = {"1 round": 120, "2 rounds": 240, "3 rounds and more": 300}
+    MOST = {f"{sort}, ending {e}": most for sort, most in small.items() for e in range(3)}
+    MOST |= {"large": 40, "large, 10 rounds and more": 3, "large, 60 rounds": 3, "10": 40}
 LONGEST = 4096
 
 
+def small_sort(answer):
+    """What a line of up to 30 orders is picked as: a first round by its situation, an opening by rounds and ending."""
+    words = answer.split()
+    if kind == "round":
+        return f"situation {int(words[0], 16) % 16}"
+    if kind == "opening":
+        ending, rounds = divmod(int(words[-1], 16) % 2**28, 2**16)
+        return f"{('1 round', '2 rounds', '3 rounds and more')[min(rounds, 3) - 1]}, ending {ending}"
+    return "small"
+
+
+def large_sort(answer):
+    """What a line of 100 orders and more is picked as."""
+    rounds = int(answer.split()[-1], 16) % 2**16 if kind == "opening" else 1
+    return "large" if rounds < 10 else "large, 60 rounds" if rounds == 60 else "large, 10 rounds and more"
+
+
 def sort_of(line, answer):
-    """What a line is picked as: a refusal's number, small (a first round by its situation), large, or None."""
+    """What a line is picked as: a refusal's number, a sort of small or of large, or None."""
     orders = (len(line.split()) - 7) // 3
     if len(line) > LONGEST:
         return None
     if answer.startswith("refused"):
         return answer.split()[1] if orders <= 40 else None
     if orders <= 30:
-        return f"situation {int(answer.split()[0], 16) % 16}" if kind == "round" else "small"
-    return "large" if orders >= 100 else None
+        return small_sort(answer)
+    return large_sort(answer) if orders >= 100 else None
 
 
 heading = f"# {kind}: of {count} random lines with seed {seed}, answered by the reference implementation"

@@ -1,27 +1,26 @@
 -- The first round of a sheet. The places of an accepted sheet begin with its orders, so what the engine works out from heading and places
 -- is the rules' answer; a refused sheet stops every call with its own refusal.
 use mathlib.Core.Bool.{true, false, not, cond}
-use mathlib.Core.List.{List, [], _∷_, map, map-map, append-nil}
-use mathlib.Core.Path.{_≡_, refl, sym, ap, _∙_}
-use Prim.Native.Nat.{ℕ, zero, suc, _+_, _-_, _≤_, _<_, min}
+use mathlib.Core.List.{List, [], _∷_, map}
+use mathlib.Core.Path.{_≡_, sym, ap, _∙_}
+use Prim.Native.Nat.{ℕ, _-_, _≤_, _<_, min}
 use native.Mathlib.Omega.{arith}
-use lib.ListN.{length, getD, take, set, replicate, length-map, List·getD-map}
-use lib.Seq.{getD-take, take-at}
+use lib.ListN.{length, take}
+use lib.Seq.{getD-take}
 use borrow.Author.Tests.{le-ltb, lt-ltb}
 use Rattle.curves.proofs.InForce.{first-in-places, at-in-places}
 use Rattle.curves.specs.Limits.{filedIn, remainingIn, inPlaces}
 use Rattle.laws.proofs.Rounds.{length-standing}
 use Rattle.rules.proofs.Accepted.{accepted-sound}
-use Rattle.rules.proofs.Downwards.{Clear, Stops, given-clear, refused-stops, downwards-append}
-use Rattle.rules.proofs.Lists.{length-listed, listed-is, filled, filled-none, filled-more}
-use Rattle.rules.specs.Answers.{gives, refuses, Check, row, downwards, checkAnswer, refusalNumber, refusalOrder, refused}
+use Rattle.rules.proofs.Downwards.{Stops, refused-stops, downwards-append}
+use Rattle.rules.proofs.Lists.{length-listed}
+use Rattle.rules.specs.Answers.{gives, refuses, Check, row, checkAnswer, refusalNumber, refusalOrder, refused}
 use Rattle.rules.specs.AuctionPrice.{curve, level}
 use Rattle.rules.specs.Calls.{stepperLimit, curvesAt, onSheet, isStepper, stepper, curvesOf, firstStanding, answerBy, answer}
 use Rattle.rules.specs.Grid.{onGrid}
 use Rattle.rules.specs.Limits.{noOrder, filed, numbered, standing}
-use Rattle.rules.specs.Lists.{listed}
 use Rattle.rules.specs.Opening.{firstStart}
-use Rattle.rules.specs.Sheet.{mostOrders, headingOf, ordersOf, sheetChecks, checkSheet}
+use Rattle.rules.specs.Sheet.{headingOf, ordersOf, sheetChecks, checkSheet}
 use Rattle.rules.specs.declared.Checked.the-variants.{Accepted, Refused}
 use Rattle.rules.specs.declared.Heading.{Heading}
 use Rattle.rules.specs.declared.Order.{Order}
@@ -30,70 +29,15 @@ use Rattle.rules.specs.declared.Refusal.{Refusal}
 use Rattle.rules.specs.declared.Side.the-variants.{Buy, Sell}
 use Rattle.rules.specs.declared.Standing.{Standing}
 use Rattle.rules.specs.declared.Terms.{Terms}
-use Rattle.sheet.specs.Reading.{headingRead, placesRead, ReadsAs}
+use Rattle.sheet.specs.Reading.{headingRead, ReadsAs}
 use Rattle.sheet.specs.declared.Reading.{Reading}
-use Rattle.auction.specs.First.{AcceptedAs}
-
--- ---- The quantities
-
--- the list of f's values over a list
-listed-map : {A B : Type 0} (f : A → B) (d : A) (xs : List A) → listed (λ k. f (getD xs k d)) (length xs) ≡ map f xs
-listed-map f d xs =
-    listed-is _ (length xs) (f d) (map f xs) (length-map xs f) (λ k l. sym (List·getD-map f xs k d))
-
--- the quantities of the first i places are copied
-pub record Copied (orders : List Order) (quantities : List Pieces) (i : ℕ) : Type 0 where
-  pub few : i ≤ mostOrders
-  pub places : quantities ≡ filled (λ k. filed orders k .quantity) (record { 0 = 0 }) mostOrders i
-
-pub copied-none : (orders : List Order) → Copied orders (replicate mostOrders (record { 0 = 0 })) 0
-copied-none orders = record { few = omega arith; places = filled-none _ (record { 0 = 0 }) mostOrders }
-
-pub copied-more : {orders : List Order} {quantities : List Pieces} {i : ℕ} → Copied orders quantities i → i < mostOrders
-    → Copied orders (set quantities i (filed orders i .quantity)) (i + 1)
-copied-more {orders} {quantities} {i} c more = record {
-  few = omega arith;
-  places = rw (c .places) (filled-more (λ k. filed orders k .quantity) (record { 0 = 0 }) mostOrders i more);
-}
-
-pub copied-all : {orders : List Order} {quantities : List Pieces} {i : ℕ} → length orders ≡ mostOrders → Copied orders quantities i
-    → mostOrders ≤ i → quantities ≡ map (λ (o : Order). o .quantity) orders
-copied-all {orders} {quantities} {i} long c done =
-    let last : i ≡ length orders = omega (arith, c .few) in
-    let none : mostOrders - length orders ≡ 0 = omega arith in
-    c .places ∙ rw (last, none) (append-nil _ ∙ listed-map (λ (o : Order). o .quantity) noOrder orders)
-
-take-map : {A B : Type 0} (f : A → B) (n : ℕ) (xs : List A) → take n (map f xs) ≡ map f (take n xs)
-take-map f zero xs = refl
-take-map f (suc n) [] = refl
-take-map f (suc n) (x ∷ xs) = ap (λ (ys : List _). f x ∷ ys) (take-map f n xs)
-
--- what remains at first is the quantities
-pub remaining-first : (h : Heading) (orders : List Order)
-    → remainingIn h (map (λ (o : Order). o .quantity) orders) ≡ map (λ (o : Order). o .quantity .0) (filedIn h orders)
-unfolding remainingIn filedIn
-remaining-first h orders =
-    ap (map (λ (m : Pieces). m .0)) (take-map (λ (o : Order). o .quantity) (h .count) orders)
-    ∙ map-map (λ (m : Pieces). m .0) (λ (o : Order). o .quantity) (take (h .count) orders)
+use Rattle.run.proofs.Accepted.{own-row, orders-are, count-is}
+use Rattle.run.proofs.Places.{remaining-first}
+use Rattle.run.specs.Accepted.{AcceptedAs}
 
 -- ---- An accepted sheet
 
 module _ {ws : List ℕ} {h : Heading} {orders : List Order} (a : AcceptedAs ws h orders) where
-  -- only the call's own row is left
-  pub own-row : (own : Check) (vs : List ℕ)
-      → onSheet ws own vs ≡ cond (own .arises) (refuses (own .number) (own .order)) (gives vs)
-  unfolding checkSheet downwards
-  own-row own vs =
-      let clear : Clear (sheetChecks ws) = given-clear (sheetChecks ws) [] (a .passes) in
-      downwards-append (sheetChecks ws) (own ∷ []) (gives vs) ∙ clear .hands-on _
-
-  pub orders-are : filedIn h orders ≡ ordersOf ws
-  unfolding filedIn placesRead ordersOf
-  orders-are =
-      rw (a .headed, a .placed, a .passes)
-      (take-at (ordersOf ws) (replicate (mostOrders - headingOf ws .count) noOrder) (headingOf ws .count)
-      (length-listed _ (headingOf ws .count)))
-
   pub count-first : length (firstStanding ws) ≡ headingOf ws .count
   unfolding firstStanding ordersOf
   count-first = length-standing (headingOf ws) (ordersOf ws) _ ∙ length-listed _ (headingOf ws .count)
@@ -101,27 +45,24 @@ module _ {ws : List ℕ} {h : Heading} {orders : List Order} (a : AcceptedAs ws 
   pub stands-first : {quantities : List Pieces} {os : List Standing} → quantities ≡ map (λ (o : Order). o .quantity) orders
       → os ≡ inPlaces (standing h (filedIn h orders) (remainingIn h quantities)) → os ≡ inPlaces (firstStanding ws)
   unfolding firstStanding firstStart
-  stands-first e placed = rw (e, remaining-first h orders, orders-are, a .headed) at placed
-
-  pub count-is : h .count ≡ headingOf ws .count
-  count-is = ap (λ (h : Heading). h .count) (a .headed)
+  stands-first e placed = rw (e, remaining-first h orders, orders-are a, a .headed) at placed
 
   module _ (k : ℕ) where
     limit-answer : answer (stepperLimit ws k)
         ≡ cond (not (isStepper ws k)) (refuses 9 0) (gives (numbered (firstStanding ws) k .limit .0 ∷ []))
     unfolding answer answerBy
-    limit-answer = own-row (row 9 (not (isStepper ws k))) _
+    limit-answer = own-row a (row 9 (not (isStepper ws k))) _
 
     -- whether the order is a Stepper is told by its terms
     own-terms : k < h .count → {t : Terms} → filed orders k .terms ≡ t → isStepper ws k ≡ stepper t
     unfolding filedIn
     own-terms l e =
         let own : filed (ordersOf ws) k ≡ filed orders k =
-        ap (λ (os : List Order). filed os k) (sym orders-are) ∙ getD-take (h .count) orders k noOrder l in
-        rw (lt-ltb k (headingOf ws .count) (omega (arith, count-is)), own, e)
+        ap (λ (os : List Order). filed os k) (sym (orders-are a)) ∙ getD-take (h .count) orders k noOrder l in
+        rw (lt-ltb k (headingOf ws .count) (omega (arith, count-is a)), own, e)
 
     pub no-such-order : h .count ≤ k → refuses 9 0 ≡ answer (stepperLimit ws k)
-    no-such-order past = rw (limit-answer, le-ltb k (headingOf ws .count) (omega (arith, count-is)))
+    no-such-order past = rw (limit-answer, le-ltb k (headingOf ws .count) (omega (arith, count-is a)))
 
     pub no-stepper : k < h .count → {t : Terms} → filed orders k .terms ≡ t → stepper t ≡ false
         → refuses 9 0 ≡ answer (stepperLimit ws k)
@@ -133,13 +74,13 @@ module _ {ws : List ℕ} {h : Heading} {orders : List Order} (a : AcceptedAs ws 
         rw (limit-answer, own-terms l e, is)
         (ap (λ (o : Standing). gives (o .limit .0 ∷ []))
         (ap (λ (os : List Standing). numbered os k) placed
-        ∙ at-in-places (firstStanding ws) k (omega (arith, count-first, count-is))))
+        ∙ at-in-places (firstStanding ws) k (omega (arith, count-first, count-is a))))
 
   module _ (p : ℕ) where
     curves-answer : answer (curvesAt ws p)
         ≡ cond (not (onGrid p)) (refuses 9 0) (gives (curvesOf (level (headingOf ws) (firstStanding ws) p)))
     unfolding answer answerBy
-    curves-answer = own-row (row 9 (not (onGrid p))) _
+    curves-answer = own-row a (row 9 (not (onGrid p))) _
 
     pub off-grid : onGrid p ≡ false → refuses 9 0 ≡ answer (curvesAt ws p)
     off-grid off = rw (curves-answer, off)
@@ -150,7 +91,7 @@ module _ {ws : List ℕ} {h : Heading} {orders : List Order} (a : AcceptedAs ws 
     unfolding level
     curves-stand on {os} placed demand supply volume =
         let first : take (h .count) os ≡ firstStanding ws =
-        ap (take (h .count)) placed ∙ first-in-places (firstStanding ws) (h .count) (count-first ∙ sym count-is) in
+        ap (take (h .count)) placed ∙ first-in-places (firstStanding ws) (h .count) (count-first ∙ sym (count-is a)) in
         rw (curves-answer, on, volume, rw first at demand, rw first at supply)
 
 -- ---- From the reading to the answer
@@ -175,6 +116,13 @@ module _ (ws : List ℕ) {r : Reading} (reads : ReadsAs ws r) where
       let stops : Stops (sheetChecks ws) (refusalNumber refusal) (refusalOrder refusal) =
       refused-stops (sheetChecks ws) [] (sym (reads .checked) ∙ ap checkAnswer e) in
       sym (downwards-append (sheetChecks ws) (own ∷ []) (gives vs) ∙ stops .refuses-all _)
+
+  -- and is not accepted
+  pub not-accepted : {refusal : Refusal} → r .checked ≡ Refused refusal → checkSheet ws ≡ gives [] → ⊥
+  not-accepted {refusal} e accepted =
+      let clash : refused refusal ≡ gives [] = sym (ap checkAnswer e) ∙ reads .checked ∙ accepted in
+      let none : _≡_ {A = ℕ} 0 1 = cc in
+      absurd (omega arith)
 
   pub limit-refused : {refusal : Refusal} → r .checked ≡ Refused refusal → (k : ℕ) → refused refusal ≡ answer (stepperLimit ws k)
   unfolding answer answerBy

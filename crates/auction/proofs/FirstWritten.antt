@@ -6,38 +6,35 @@ use mathlib.Core.Path.{_≡_, sym, ap, _∙_}
 use Prim.Native.Nat.{ℕ, _+_, _-_, _≤_, _<_}
 use native.Mathlib.Omega.{arith}
 use lib.Dec.{ltb}
-use lib.ListN.{length, take, drop, length-map, length-take, List·getD-map}
+use lib.ListN.{length, take, drop, length-take}
 use lib.Seq.{take-at}
 use borrow.Author.Tests.{lt-ltb, le-ltb}
 use Rattle.curves.specs.Limits.{filedIn, remainingIn}
-use Rattle.laws.proofs.Bounds.{FewPieces, FitsWords, round-fits}
-use Rattle.laws.proofs.Fills.{fills-largest}
+use Rattle.laws.proofs.Bounds.{FitsWords}
 use Rattle.laws.proofs.ReadBack.{read-back}
-use Rattle.laws.proofs.Rounds.{remaining-standing, count-orders}
-use Rattle.laws.proofs.Totals.{fills-length}
+use Rattle.laws.proofs.RoundHolds.{round-holds}
+use Rattle.laws.proofs.Run.{startAt, round-long, fills-count, number-fits}
 use Rattle.rounds.proofs.OneRound.{of-orders}
 use Rattle.rounds.specs.Rounds.{handedBack, withPlaces, ofOrders}
 use Rattle.rounds.specs.declared.Round as declared
-use Rattle.rules.proofs.Accepted.{SoundSheet, accepted-sound}
-use Rattle.rules.specs.Answers.{gives, refuses, row, checkAnswer, refused}
-use Rattle.rules.specs.AuctionPrice.{auction}
+use Rattle.rules.specs.Answers.{gives, refuses, row, refused}
 use Rattle.rules.specs.Calls.{firstRound, firstStanding, answerBy, answer, FirstRound}
 use Rattle.rules.specs.Demand3.{roundIn}
 use Rattle.rules.specs.Fills.{Largest}
-use Rattle.rules.specs.Limits.{noOrder, standing}
-use Rattle.rules.specs.Opening.{Round, roundAt, roundOver, roundOf, firstStart, roundWords, roundSpace}
-use Rattle.rules.specs.Sheet.{D, H, headingOf, ordersOf}
-use Rattle.rules.specs.Words.{word}
+use Rattle.rules.specs.Limits.{standing}
+use Rattle.rules.specs.Opening.{Round, roundOver, roundOf, firstStart, roundWords, roundSpace}
+use Rattle.rules.specs.Sheet.{headingOf}
 use Rattle.rules.specs.declared.Checked.the-variants.{Refused}
 use Rattle.rules.specs.declared.Heading.{Heading}
 use Rattle.rules.specs.declared.Order.{Order}
 use Rattle.rules.specs.declared.Pieces.{Pieces}
 use Rattle.rules.specs.declared.Refusal.{Refusal}
-use Rattle.rules.specs.declared.Standing.{Standing}
+use Rattle.run.proofs.Accepted.{own-row, orders-are, count-is, sound}
+use Rattle.run.proofs.Places.{remaining-first}
+use Rattle.run.specs.Accepted.{AcceptedAs, OfSheet}
 use Rattle.sheet.specs.Reading.{ReadsAs}
 use Rattle.sheet.specs.declared.Reading.{Reading}
-use Rattle.auction.proofs.FirstRound.{remaining-first, own-row, orders-are, count-first, count-is, refused-sheet}
-use Rattle.auction.specs.First.{AcceptedAs, OfSheet}
+use Rattle.auction.proofs.FirstRound.{refused-sheet, not-accepted}
 
 -- the first round of a sheet, by the rules
 abbrev firstOf : List ℕ → Round
@@ -55,18 +52,13 @@ part-words before {size} enough = simp length-take (omega arith)
 -- ---- An accepted sheet
 
 module _ {ws : List ℕ} {h : Heading} {orders : List Order} (a : AcceptedAs ws h orders) where
-  abbrev os : List Standing
-  os = firstStanding ws
+  fills-first : length (firstOf ws .fills) ≡ headingOf ws .count
+  unfolding startAt
+  fills-first = fills-count ws 0
 
-  sound : SoundSheet ws
-  sound = accepted-sound ws (a .passes)
-
-  band : D (headingOf ws) ≤ H (headingOf ws)
-  band = omega (arith, sound .heading .above-lower, sound .heading .below-upper)
-
-  fills-count : length (firstOf ws .fills) ≡ headingOf ws .count
-  unfolding roundOf roundAt firstStanding
-  fills-count = fills-length (headingOf ws) (auction (headingOf ws) (firstStart ws .last) os) os ∙ count-first a
+  first-fits : FitsWords (firstOf ws)
+  unfolding startAt
+  first-fits = number-fits ws (sound a) 0
 
   module _ {quantities : List Pieces} (e : quantities ≡ map (λ (o : Order). o .quantity) orders) (r : declared.Round)
       (given : handedBack r ≡ withPlaces (roundOver h (h .last .0) (standing h (filedIn h orders) (remainingIn h quantities)))) where
@@ -76,27 +68,7 @@ module _ {ws : List ℕ} {h : Heading} {orders : List Order} (a : AcceptedAs ws 
     handed-first = rw (e, remaining-first h orders, orders-are a, a .headed) at given
 
     pub first-is : ofOrders (h .count) r ≡ firstOf ws
-    first-is = of-orders (h .count) (firstOf ws) r (fills-count ∙ sym (count-is a)) handed-first
-
-  -- each order has its quantity left
-  few-pieces : FewPieces os
-  unfolding firstStanding firstStart
-  few-pieces = record {
-    few = rw (count-first a) (sound .heading .count);
-    pieces = λ k l.
-        let own : k < headingOf ws .count = omega (arith, count-first a) in
-        let filed : k < length (ordersOf ws) = omega (arith, count-orders ws) in
-        let quantity = sound .orders k noOrder own .most in
-        let left = remaining-standing (headingOf ws) (ordersOf ws) (firstStart ws .remaining) k filed
-        ∙ List·getD-map (λ (o : Order). o .quantity .0) (ordersOf ws) k noOrder in
-        rw left quantity;
-  }
-
-  first-fits : FitsWords (firstOf ws)
-  unfolding roundOf firstStanding firstStart
-  first-fits =
-      let s = sound .heading in
-      round-fits (headingOf ws) (headingOf ws .last .0) os band (s .upper .1) (s .indicative .1) (s .last .1) few-pieces
+    first-is = of-orders (h .count) (firstOf ws) r (fills-first ∙ sym (count-is a)) handed-first
 
   -- the answer where the sheet is accepted
   round-answer : (space : ℕ)
@@ -105,17 +77,16 @@ module _ {ws : List ℕ} {h : Heading} {orders : List Order} (a : AcceptedAs ws 
   round-answer space = own-row a (row 10 (ltb space (roundSpace (headingOf ws .count)))) _
 
   words-count : length (roundWords (firstOf ws)) ≡ roundSpace (headingOf ws .count)
-  unfolding roundWords
-  words-count = omega (arith, length-map (firstOf ws .fills) (word 14), fills-count)
+  words-count = omega (arith, round-long (firstOf ws), fills-first)
 
   -- the fills of the first round are those that F1–F4 leave
-  first-largest : Largest (headingOf ws) (record { situation = firstOf ws .situation; price = firstOf ws .price }) os (firstOf ws .fills)
-  unfolding roundOf roundAt firstStanding
-  first-largest = fills-largest (headingOf ws) (auction (headingOf ws) (firstStart ws .last) os) os band
+  first-largest : Largest (headingOf ws) (record { situation = firstOf ws .situation; price = firstOf ws .price }) (firstStanding ws) (firstOf ws .fills)
+  unfolding firstStanding
+  first-largest = round-holds ws (sound a) (firstStart ws) .filled
 
   -- the words in front of a space say what the first round is
   first-said : (rest : List ℕ) → roundIn ws (roundWords (firstOf ws) ++ rest) 0 ≡ firstOf ws
-  first-said rest = read-back ws [] rest 0 (firstOf ws) (omega arith) fills-count first-fits
+  first-said rest = read-back ws [] rest 0 (firstOf ws) (omega arith) fills-first first-fits
 
   module _ {before : List ℕ} where
     -- too few words: nothing is written
@@ -150,9 +121,6 @@ pub fits-its-words : {h : Heading} {orders : List Order} → OfSheet h orders �
     → FitsWords (ofOrders (h .count) r)
 fits-its-words s e r given = rw (first-is (s .accepted) e r given) (first-fits (s .accepted))
 
-pub few-of-sheet : {h : Heading} {orders : List Order} → OfSheet h orders → h .count ≤ 120
-few-of-sheet s = rw (s .accepted .headed) (accepted-sound (s .words) (s .accepted .passes) .heading .count)
-
 -- ---- From the reading to the answer
 
 module _ (ws : List ℕ) {r : Reading} (reads : ReadsAs ws r) where
@@ -164,8 +132,5 @@ module _ (ws : List ℕ) {r : Reading} (reads : ReadsAs ws r) where
       record {
         answers = refusal-is;
         holds = rw (← refusal-is);
-        filled = λ accepted room.
-            let clash : refused refusal ≡ gives [] = sym (ap checkAnswer e) ∙ reads .checked ∙ accepted in
-            let none : _≡_ {A = ℕ} 0 1 = cc in
-            absurd (omega arith);
+        filled = λ accepted room. absurd (not-accepted ws reads e accepted);
       }

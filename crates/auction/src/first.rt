@@ -1,13 +1,12 @@
 // The first round of an accepted sheet: it starts from the sheet's quantities. What is promised here is
 // promised of every accepted sheet with this heading and these orders.
-ghost use mathlib.Core.List.{List, map};
+ghost use mathlib.Core.List.{List};
 ghost use mathlib.Core.Path.{_≡_};
-ghost use Prim.Native.Nat.{ℕ, _≤_, min};
+ghost use Prim.Native.Nat.{ℕ, _≤_};
 ghost use Rattle.rules.specs.Answers.{priceAnswer, curvesAnswer, spaceAnswer};
 ghost use Rattle.rules.specs.Calls.{answer, stepperLimit, curvesAt, firstStanding, FirstRound};
-ghost use Rattle.rules.specs.declared.Order as declared;
 ghost use Rattle.curves.specs.Limits.{inPlaces};
-ghost use Rattle.auction.specs.First.{AcceptedAs, OfSheet};
+ghost use Rattle.run.specs.Accepted.{AcceptedAs, OfSheet};
 use compare::smaller;
 use curves::limits::limits_in_force;
 use curves::pieces::pieces_at;
@@ -16,7 +15,6 @@ use rounds::words::write_round;
 use rules::CurvesAnswer;
 use rules::Heading;
 use rules::Order;
-use rules::Pieces;
 use rules::Price;
 use rules::PriceAnswer;
 use rules::Refusal;
@@ -25,22 +23,7 @@ use rules::SpaceAnswer;
 use rules::Standing;
 use rules::Terms;
 use rules::on_grid;
-
-// The quantities of the orders, place by place.
-fn quantities(orders: [Order; 120]) -> [Pieces; 120]
-    ensures { λ r. ⌜ r ≡ map (λ (o : declared.Order). o .quantity) orders ⌝ }
-{
-    let none = Pieces(0);
-    let mut quantities = [none; 120];
-    let mut i: usize = 0;
-    while i < 120 {
-        let order = orders[i];
-        let quantity = order.quantity;
-        quantities[i] = quantity;
-        i += 1;
-    }
-    quantities
-}
+use run::start::quantities;
 
 // The orders of the first round at their limits in force.
 fn standing_first(heading: Heading, orders: [Order; 120]) -> [Standing; 120]

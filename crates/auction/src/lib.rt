@@ -1,10 +1,11 @@
 // Document 01, "Opening": the calls on a sheet. Their arguments may be any numbers: the sheet's faults are
 // refused first, then what is not allowed.
 mod first;
+mod whole;
 
 ghost use mathlib.Core.Path.{_≡_};
 ghost use Rattle.rules.specs.Answers.{priceAnswer, curvesAnswer, spaceAnswer};
-ghost use Rattle.rules.specs.Calls.{answer, stepperLimit, curvesAt, FirstRound};
+ghost use Rattle.rules.specs.Calls.{answer, stepperLimit, curvesAt, FirstRound, Opened};
 use first::curves_in_first;
 use first::limit_in_first;
 use first::round_in_first;
@@ -13,6 +14,7 @@ use rules::CurvesAnswer;
 use rules::PriceAnswer;
 use rules::SpaceAnswer;
 use sheet::read_sheet;
+use whole::opening_in;
 
 // The call that gives the limit in force of a Stepper in the first round, from the order's number.
 pub fn stepper_limit(words: &[u32], order: usize) -> PriceAnswer
@@ -52,6 +54,21 @@ pub fn first_round(words: &[u32], space: &mut [u32]) -> SpaceAnswer
     let orders = reading.orders;
     match checked {
         Checked::Accepted => round_in_first(heading, orders, space),
+        Checked::Refused(refusal) => SpaceAnswer::Refused(refusal),
+    }
+}
+
+// The call that runs the opening and writes it into the lent space, which needs (n + 1) × (n + 4) + 1
+// words.
+pub fn opening(words: &[u32], space: &mut [u32]) -> SpaceAnswer
+    ensures { λ r. ⌜ Opened (now (words .entry)) (now (space .entry)) (now (space .exit)) (spaceAnswer r (now (space .exit))) ⌝ }
+{
+    let reading = read_sheet(words);
+    let checked = reading.checked;
+    let heading = reading.heading;
+    let orders = reading.orders;
+    match checked {
+        Checked::Accepted => opening_in(heading, orders, space),
         Checked::Refused(refusal) => SpaceAnswer::Refused(refusal),
     }
 }

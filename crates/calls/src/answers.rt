@@ -4,7 +4,8 @@ use crate::fields::Number;
 use crate::fields::field_end;
 use crate::fields::read_fields;
 use crate::fields::spelled;
-use crate::round::print_round;
+use crate::space::Writes;
+use crate::space::print_written;
 use rules::BandAnswer;
 use rules::Checked;
 use rules::CurvesAnswer;
@@ -17,6 +18,7 @@ enum SheetCall {
     Stepper(u64),
     Curves(u64),
     Round(u64),
+    Opening(u64),
 }
 
 pub(crate) fn print_refusal(refusal: Refusal) {
@@ -95,7 +97,8 @@ fn call_sheet(call: SheetCall, words: &[u32]) {
         SheetCall::Check => print_check(sheet::check(words)),
         SheetCall::Stepper(order) => print_price(auction::stepper_limit(words, order as usize)),
         SheetCall::Curves(price) => print_curves(auction::curves_at(words, argument(price))),
-        SheetCall::Round(space) => print_round(space, words),
+        SheetCall::Round(space) => print_written(Writes::FirstRound, space, words),
+        SheetCall::Opening(space) => print_written(Writes::Opening, space, words),
     }
 }
 
@@ -126,6 +129,7 @@ enum Numbered {
     Stepper,
     Curves,
     Round,
+    Opening,
 }
 
 fn with_number(call: Numbered, number: u64) -> SheetCall {
@@ -133,6 +137,7 @@ fn with_number(call: Numbered, number: u64) -> SheetCall {
         Numbered::Stepper => SheetCall::Stepper(number),
         Numbered::Curves => SheetCall::Curves(number),
         Numbered::Round => SheetCall::Round(number),
+        Numbered::Opening => SheetCall::Opening(number),
     }
 }
 
@@ -199,6 +204,10 @@ fn answer_call(name: &[u8], text: &[u8]) {
     }
     if check::same(name, b"round") {
         answer_numbered(Numbered::Round, text);
+        return;
+    }
+    if check::same(name, b"opening") {
+        answer_numbered(Numbered::Opening, text);
         return;
     }
     answer_band(name, text);

@@ -4,6 +4,7 @@
 //     stepper ORDER WORD ..            the limit in force of the Stepper of this number
 //     curves PRICE WORD ..             demand, supply and volume at this price
 //     round SPACE WORD ..              the words of the first round, in a space of so many words
+//     opening SPACE WORD ..            the words of the opening, in such a space
 //     indicative D H COUNT CLOSING AUCTION
 //     next CODE I
 //     widen D H SIDE
@@ -13,7 +14,7 @@
 // stands, an empty line has no answer, and one that cannot be read is answered `unreadable`.
 mod answers;
 mod fields;
-mod round;
+mod space;
 
 use answers::answer;
 

@@ -5,12 +5,12 @@ use mathlib.Core.List.{List}
 use mathlib.Core.Option.{none, some}
 use mathlib.Core.Path.{_≡_, refl}
 use Prim.Native.Nat.{ℕ, zero, suc, _*_, _≤_, _<_, max, min, zero-le}
-use native.Mathlib.Nat.{le-trans}
+use native.Mathlib.Nat.{le-refl, le-trans}
 use native.Mathlib.Omega.{arith}
 use lib.Dec.{leb, ltb}
 use lib.ListN.{length}
-use borrow.Author.Tests.{leb-true}
-use Rattle.laws.proofs.Crossing.{endWithin, balanced, crossedAt, pieceLimit, buys-limit, greatest, maximisers-run, auction-crossed, auction-uncrossed}
+use borrow.Author.Tests.{ltb-false}
+use Rattle.laws.proofs.Crossing.{endWithin, crossed-potential, pieceLimit, buys-limit, greatest, maximisers-run, auction-crossed, auction-uncrossed}
 use Rattle.laws.proofs.Fills.{fills-lawful, fills-largest}
 use Rattle.laws.proofs.Orders.{left}
 use Rattle.laws.proofs.Spans.{spanEnd}
@@ -33,17 +33,6 @@ pub record OfGrid (a : Auction) : Type 0 where
   pub situation : a .situation ≤ 4
   pub price : a .price ≤ lastPrice
 
-balanced-le : (low high x y last : ℕ) → low ≤ high → balanced low high x y last ≤ high
-balanced-le low high x y last h = omega arith
-
-crossed-le : (h : Heading) (a b x y last : ℕ) → a ≤ b → crossedAt h a b x y last ≤ b
-unfolding crossedAt
-crossed-le h a b x y last run =
-    by-test (λ p. p ≤ b) (leb (max (D h) a) (min (H h) b))
-    (λ e.
-    le-trans (balanced-le (max (D h) a) (min (H h) b) x y last (leb-true (max (D h) a) (min (H h) b) e)) (omega arith))
-    (λ e. balanced-le a b x y last run)
-
 module _ (h : Heading) (last : ℕ) (indicative : I h ≤ lastPrice) (before : last ≤ lastPrice) where
   uncrossed-on : (x y : ℕ) → x ≤ lastPrice → OfGrid (uncrossed h last (endWithin h Buy x) (endWithin h Sell y))
   unfolding uncrossed spanEnd
@@ -65,7 +54,7 @@ module _ (h : Heading) (last : ℕ) (indicative : I h ≤ lastPrice) (before : l
           rw (auction-crossed h os last (omega arith))
           (record {
             situation = zero-le;
-            price = le-trans (crossed-le h _ _ _ _ last (maximisers-run h os)) (buys-limit os (greatest h os));
+            price = le-trans (crossed-potential h _ _ _ _ last (maximisers-run h os) .to) (buys-limit os (greatest h os));
           })
 
 -- ---- The round
@@ -83,10 +72,15 @@ unfolding sumTo
 sum-each f zero each = zero-le
 sum-each f (suc n) each = omega (arith, sum-each f n (λ j l. each j (omega arith)), each n (omega arith))
 
-moved-le : (h : Heading) (p : ℕ) → D h ≤ lastPrice → H h ≤ lastPrice → p ≤ lastPrice → movedInto (D h) (H h) p ≤ lastPrice
+moved-le : (h : Heading) (p : ℕ) → D h ≤ H h → movedInto (D h) (H h) p ≤ H h
 unfolding movedInto
-moved-le h p low high on =
-    by-test (λ q. q ≤ lastPrice) (ltb p (D h)) (λ e. low) (λ e. by-test (λ q. q ≤ lastPrice) (ltb (H h) p) (λ f. high) (λ f. on))
+moved-le h p band =
+    by-test (λ q. q ≤ H h) (ltb p (D h)) (λ e. band)
+    (λ e. by-test (λ q. q ≤ H h) (ltb (H h) p) (λ f. le-refl (H h)) (λ f. ltb-false (H h) p f))
+
+-- a purchase price is in the band, or 0
+pub purchase-le : (h : Heading) (a : Auction) (sum : ℕ) → D h ≤ H h → purchasePrice h a sum ≤ H h
+purchase-le h a sum band = by-test (λ p. p ≤ H h) (leb 1 sum) (λ e. moved-le h (a .price) band) (λ e. zero-le)
 
 -- the orders of a round: at most 120, each with at most 1,000,000 pieces left
 pub record FewPieces (os : List Standing) : Type 0 where
@@ -105,22 +99,16 @@ module _ (h : Heading) (last : ℕ) (os : List Standing) (band : D h ≤ H h) (u
       (λ j l. by-test (λ x. x ≤ 1000000) (sameSide s (numbered os j .side)) (λ e. fill-le a j l) (λ e. zero-le)) in
       omega (arith, each, small .few)
 
-  purchase-le : (a : Auction) → OfGrid a → (sum : ℕ) → purchasePrice h a sum ≤ lastPrice
-  purchase-le a on sum =
-      by-test (λ p. p ≤ lastPrice) (leb 1 sum) (λ e. moved-le h (a .price) (omega arith) upper (on .price)) (λ e. zero-le)
-
   pub round-fits : FitsWords (roundOver h last os)
   unfolding roundAt
   round-fits =
       let a : Auction = auction h last os in
       let on : OfGrid a = auction-of-grid h last indicative before os in
       let most : total Buy os (fillsOf h a os) ≤ 120000000 = total-le a Buy in
-      let purchase : purchasePrice h a (total Buy os (fillsOf h a os)) ≤ lastPrice =
-      purchase-le a on (total Buy os (fillsOf h a os)) in
       record {
         situation = omega (arith, on .situation);
         price = omega (arith, on .price);
-        purchase = omega (arith, purchase);
+        purchase = omega (arith, purchase-le h a (total Buy os (fillsOf h a os)) band);
         total = omega (arith, most);
         fills = λ k l.
             let own : k < length os = omega (arith, fills-largest h a os band .each) in

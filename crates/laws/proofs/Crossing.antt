@@ -15,10 +15,10 @@ use Rattle.laws.proofs.Best.{place, nth-place, place-on}
 use Rattle.laws.proofs.Curves.{AtLeast, pieces-fall, levels}
 use Rattle.laws.proofs.Places.{same-test, same-leb}
 use Rattle.laws.proofs.Reach.{reach, reach-le, up-to-reach}
-use Rattle.laws.proofs.Spans.{Span, endFor, spanEnd, end-some, best-of-span, both-span, lowFor, highFor, allows-span}
+use Rattle.laws.proofs.Spans.{Span, endFor, spanEnd, end-some, best-of-span, within-is, both-span, lowFor, highFor, allows-span}
 use Rattle.rules.proofs.Grid.{OnGrid, both}
-use Rattle.rules.proofs.Scan.{greatest-ge, greatest-le}
-use Rattle.rules.specs.AuctionPrice.{curve, Level, level, volume, orElse, found, highest, greatestVolume, maximiser, potential, crossed, uncrossed, auctionBy, auction}
+use Rattle.rules.proofs.Scan.{by-test, greatest-ge, greatest-le}
+use Rattle.rules.specs.AuctionPrice.{curve, inBand, Level, level, volume, orElse, found, highest, greatestVolume, maximiser, potential, crossed, uncrossed, auctionBy, auction}
 use Rattle.rules.specs.Grid.{lastPrice, nth, overGrid}
 use Rattle.rules.specs.Limits.{allows}
 use Rattle.rules.specs.Sheet.{D, H}
@@ -49,6 +49,38 @@ crossedAt h a b x y last =
     cond (leb (max (D h) a) (min (H h) b))
     (balanced (max (D h) a) (min (H h) b) x y last)
     (balanced a b x y last)
+
+-- the price lies in low..high, and in the band where that has one of them
+pub record Potential (h : Heading) (low high p : ℕ) : Type 0 where
+  pub from : low ≤ p
+  pub to : p ≤ high
+  pub banded : max (D h) low ≤ min (H h) high → inBand h p ≡ true
+
+balanced-ge : (low high x y last : ℕ) → low ≤ high → low ≤ balanced low high x y last
+balanced-ge low high x y last run = omega arith
+
+balanced-le : (low high x y last : ℕ) → low ≤ high → balanced low high x y last ≤ high
+balanced-le low high x y last run = omega arith
+
+pub crossed-potential : (h : Heading) (a b x y last : ℕ) → a ≤ b → Potential h a b (crossedAt h a b x y last)
+unfolding crossedAt
+crossed-potential h a b x y last run =
+    by-test (Potential h a b) (leb (max (D h) a) (min (H h) b))
+    (λ e.
+    let l = leb-true (max (D h) a) (min (H h) b) e in
+    common _ (balanced-ge (max (D h) a) (min (H h) b) x y last l) (balanced-le (max (D h) a) (min (H h) b) x y last l))
+    (λ e. record {
+      from = balanced-ge a b x y last run;
+      to = balanced-le a b x y last run;
+      banded = λ l. absurd (omega (arith, leb-false (max (D h) a) (min (H h) b) e));
+    })
+  where
+    common : (p : ℕ) → max (D h) a ≤ p → p ≤ min (H h) b → Potential h a b p
+    common p f t = record {
+      from = omega arith;
+      to = omega arith;
+      banded = λ l. within-is (D h) (H h) p (omega arith) (omega arith);
+    }
 
 -- ---- The limit of a side's piece v
 
@@ -91,7 +123,7 @@ module _ (h : Heading) (os : List Standing) where
   abbrev pub greatest : ℕ
   greatest = greatestVolume (levels h os)
 
-  volume-le : (p : ℕ) → OnGrid p → volume (level h os p) ≤ greatest
+  pub volume-le : (p : ℕ) → OnGrid p → volume (level h os p) ≤ greatest
   unfolding overGrid
   volume-le p on = greatest-ge (λ q. volume (level h os q)) lastPrice p (on .0) (on .1)
 
@@ -171,7 +203,7 @@ module _ (h : Heading) (os : List Standing) where
       let t = both {a = leb g s} e in
       eq-eqb (min d s) g (omega (arith, leb-true g s (t .0), leb-true g d (t .1))))
 
-  maximisers : Span (λ p. maximiser (levels h os) (level h os p)) (limitOf Sell greatest) (limitOf Buy greatest)
+  pub maximisers : Span (λ p. maximiser (levels h os) (level h os p)) (limitOf Sell greatest) (limitOf Buy greatest)
   unfolding level
   maximisers = record {
     tells = λ p on.
@@ -274,10 +306,10 @@ module _ (h : Heading) (os : List Standing) where
   bandHas = found (highest (levels h os) (λ v. v .within && maximiser (levels h os) v))
 
   -- the maximisers run from a to b
-  abbrev a : ℕ
+  abbrev pub a : ℕ
   a = limitOf Sell greatest
 
-  abbrev b : ℕ
+  abbrev pub b : ℕ
   b = limitOf Buy greatest
 
   pub maximisers-run : a ≤ b

@@ -17,3 +17,8 @@ pub mod UsesUp
 pub mod Rounds
 pub mod Bounds
 pub mod ReadBack
+pub mod BestPrice
+pub mod RoundHolds
+pub mod Run
+pub mod Demand3Holds
+pub mod NothingOpen

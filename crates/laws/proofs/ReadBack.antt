@@ -1,13 +1,14 @@
--- The words of a round say what the round is: the value of each word is the one it was written for, as it fits the low 28 bits.
+-- The words of a round say what the round is: the kind and the value of each word are those it was written for, as the value fits the
+-- low 28 bits.
 use mathlib.Core.List.{List, [], _∷_, _++_, map}
 use mathlib.Core.Path.{_≡_, refl, ap, _∙_}
-use Prim.Native.Nat.{ℕ, zero, suc, _+_, _*_, _%_, _<_}
+use Prim.Native.Nat.{ℕ, zero, suc, _+_, _*_, _/_, _%_, _<_}
 use native.Mathlib.Omega.{arith}
 use lib.ListN.{length, getD}
 use lib.Seq.{getD-append-add}
 use Rattle.laws.proofs.Bounds.{FitsWords}
 use Rattle.rules.proofs.Lists.{listed-is}
-use Rattle.rules.specs.Demand3.{count, placeOf, roundIn}
+use Rattle.rules.specs.Demand3.{count, placeOf, roundIn, Kinds}
 use Rattle.rules.specs.Fills.{fillOf}
 use Rattle.rules.specs.Lists.{listed}
 use Rattle.rules.specs.Opening.{Round, roundWords}
@@ -15,6 +16,9 @@ use Rattle.rules.specs.Words.{word, wordAt}
 
 value-of : (kind value : ℕ) → value < 0x1000_0000 → word kind value % 0x1000_0000 ≡ value
 value-of kind value small = omega arith
+
+kind-of : (kind value : ℕ) → value < 0x1000_0000 → word kind value / 0x1000_0000 ≡ kind
+kind-of kind value small = omega arith
 
 mapped-at : (f : ℕ → ℕ) (xs rest : List ℕ) (k : ℕ) → k < length xs → getD (map f xs ++ rest) k 0 ≡ f (getD xs k 0)
 mapped-at f [] rest k l = absurd (omega arith)
@@ -47,3 +51,14 @@ module _ (ws before rest : List ℕ) (r : ℕ) (R : Round) (start : length befor
   unfolding roundIn roundWords
   read-back =
       rw (word-of 0, word-of 1, word-of 2, word-of 3, fills-are, value-of 10 (R .situation) (fits .situation), value-of 11 (R .price) (fits .price), value-of 12 (R .purchase) (fits .purchase), value-of 13 (R .total) (fits .total))
+
+  pub kinds-back : Kinds ws words r
+  unfolding roundWords
+  kinds-back = record {
+    situation = rw (word-of 0) (kind-of 10 (R .situation) (fits .situation));
+    price = rw (word-of 1) (kind-of 11 (R .price) (fits .price));
+    purchase = rw (word-of 2) (kind-of 12 (R .purchase) (fits .purchase));
+    total = rw (word-of 3) (kind-of 13 (R .total) (fits .total));
+    fills = λ k l.
+        rw (word-of (4 + k), fill-of k l) (kind-of 14 (fillOf (R .fills) k) (fits .fills k (omega arith)));
+  }

@@ -1,13 +1,13 @@
--- No opening is cut short: a round that goes on uses up an order, so the bound of n rounds after the first, by which the rounds
--- of an opening are defined, is never what ends it.
+-- A round that goes on uses up an order, so it leaves fewer orders with pieces than it found: there are no more such rounds than
+-- orders.
 use mathlib.Core.Bool.{Bool, true, false, _&&_, cond}
-use mathlib.Core.List.{List, [], _∷_}
+use mathlib.Core.List.{List}
 use mathlib.Core.Path.{_≡_, refl, ap, _∙_}
-use Prim.Native.Nat.{ℕ, zero, suc, _+_, _-_, _≤_, _<_, zero-le}
+use Prim.Native.Nat.{ℕ, _+_, _-_, _≤_, _<_, zero-le}
 use native.Mathlib.Nat.{le-refl}
 use native.Mathlib.Omega.{arith}
 use lib.Dec.{ltb, eqb}
-use lib.ListN.{length, getD, length-map}
+use lib.ListN.{length, getD}
 use borrow.Author.Tests.{leb-true, ltb-true, ltb-false, eqb-true, lt-ltb}
 use Rattle.laws.proofs.Sums.{one-le, ones, sum-more, Passing}
 use Rattle.laws.proofs.Totals.{total-is}
@@ -17,9 +17,10 @@ use Rattle.rules.proofs.Lists.{length-listed, getD-listed}
 use Rattle.rules.proofs.Sums.{sum-le}
 use Rattle.rules.specs.AuctionPrice.{Auction, inBand, auction}
 use Rattle.rules.specs.Fills.{fillOf, total, fillsOf}
-use Rattle.rules.specs.Limits.{numbered, standingBy, standing}
+use Rattle.rules.specs.Grid.{overGrid}
+use Rattle.rules.specs.Limits.{stands, filed, numbered, rivalPieces, limitInForce, standingBy, standing}
 use Rattle.rules.specs.Lists.{sumTo}
-use Rattle.rules.specs.Opening.{Start, Round, roundAt, roundOf, firstStart, after, goesOn, roundsFrom}
+use Rattle.rules.specs.Opening.{Start, Round, roundAt, roundOf, after, goesOn}
 use Rattle.rules.specs.Sheet.{D, H, orderAt, headingOf, ordersOf}
 use Rattle.rules.specs.declared.Heading.{Heading}
 use Rattle.rules.specs.declared.Order.{Order}
@@ -28,15 +29,27 @@ use Rattle.rules.specs.declared.Standing.{Standing}
 
 -- ---- The orders of a round
 
+pub count-orders : (ws : List ℕ) → length (ordersOf ws) ≡ headingOf ws .count
+unfolding ordersOf
+count-orders ws = length-listed (orderAt ws) (headingOf ws .count)
+
 pub length-standing : (h : Heading) (orders : List Order) (remaining : List ℕ)
     → length (standing h orders remaining) ≡ length orders
 unfolding standing standingBy
 length-standing h orders remaining = length-listed _ (length orders)
 
+-- order k as it stands
+pub standing-at : (h : Heading) (orders : List Order) (remaining : List ℕ) (k : ℕ) → k < length orders
+    → numbered (standing h orders remaining) k
+    ≡ stands (filed orders k)
+    (limitInForce h (filed orders k .side) (filed orders k .terms) (overGrid (rivalPieces h orders remaining k)))
+    (getD remaining k 0)
+unfolding standing standingBy
+standing-at h orders remaining k l = getD-listed _ (length orders) k _ l
+
 pub remaining-standing : (h : Heading) (orders : List Order) (remaining : List ℕ) (k : ℕ) → k < length orders
     → numbered (standing h orders remaining) k .remaining .0 ≡ getD remaining k 0
-unfolding standing standingBy
-remaining-standing h orders remaining k l = ap (λ (o : Standing). o .remaining .0) (getD-listed _ (length orders) k _ l)
+remaining-standing h orders remaining k l = ap (λ (o : Standing). o .remaining .0) (standing-at h orders remaining k l)
 
 -- ---- The orders with pieces left
 
@@ -59,7 +72,7 @@ pub length-after : (s : Start) (r : Round) → length (after s r .remaining) ≡
 unfolding after
 length-after s r = length-listed _ (length (s .remaining))
 
-remaining-after : (s : Start) (r : Round) (k : ℕ) → k < length (s .remaining)
+pub remaining-after : (s : Start) (r : Round) (k : ℕ) → k < length (s .remaining)
     → getD (after s r .remaining) k 0 ≡ getD (s .remaining) k 0 - fillOf (r .fills) k
 unfolding after
 remaining-after s r k l = getD-listed _ (length (s .remaining)) k 0 l
@@ -82,24 +95,14 @@ live-after s r k l some full =
         let none : getD (after s r .remaining) k 0 ≡ 0 = remaining-after s r k l ∙ omega arith in
         rw (none, lt-ltb 0 (getD (s .remaining) k 0) some) (le-refl 1)
 
-few-live : (s : Start) → live s ≤ length (s .remaining)
+pub few-live : (s : Start) → live s ≤ length (s .remaining)
 unfolding live
 few-live s =
     let most =
     sum-le (λ k. one (getD (s .remaining) k 0)) (λ k. 1) (length (s .remaining)) (λ j l. one-le (ltb 0 (getD (s .remaining) j 0))) in
     omega (arith, ones (length (s .remaining)))
 
--- ---- The rounds of an opening
-
-pub count-orders : (ws : List ℕ) → length (ordersOf ws) ≡ headingOf ws .count
-unfolding ordersOf
-count-orders ws = length-listed (orderAt ws) (headingOf ws .count)
-
--- the last of some rounds does not go on
-pub EndsThere : Heading → List Round → Type 0
-EndsThere h [] = Unit {0}
-EndsThere h (r ∷ []) = goesOn h r ≡ false
-EndsThere h (r ∷ q ∷ rs) = EndsThere h (q ∷ rs)
+-- ---- A round that goes on
 
 module _ (ws : List ℕ) (band : D (headingOf ws) ≤ H (headingOf ws)) where
   abbrev h : Heading
@@ -139,41 +142,3 @@ module _ (ws : List ℕ) (band : D (headingOf ws) ≤ H (headingOf ws)) where
       live-after s (roundOf ws s) k (omega arith)
       (rw left at (ltb-true 0 (numbered (os s) k .remaining .0) (t .0)))
       (eqb-true (fillOf (fillsOf h (auctionFrom s) (os s)) k) (numbered (os s) k .remaining .0) (t .1) ∙ left)
-
-  -- the rounds that follow a round end where they end by themselves
-  ends-after : (more : ℕ) (s : Start) (r : Round) → EndsThere h (roundsFrom (roundOf ws) h more s)
-      → EndsThere h (r ∷ roundsFrom (roundOf ws) h more s)
-  unfolding roundsFrom EndsThere
-  ends-after zero s r e = e
-  ends-after (suc more) s r e = e
-
-  -- so where no more orders have pieces than rounds may follow, the last round does not go on
-  rounds-end : (more : ℕ) (s : Start) → length (s .remaining) ≡ n → live s ≤ more
-      → EndsThere h (roundsFrom (roundOf ws) h more s)
-  unfolding roundsFrom EndsThere
-  rounds-end zero s long few = go (goesOn h (roundOf ws s)) refl
-    where
-      go : (t : Bool) → goesOn h (roundOf ws s) ≡ t → goesOn h (roundOf ws s) ≡ false
-      go true e = absurd (omega (arith, leaves-fewer s long e))
-      go false e = e
-  rounds-end (suc more) s long few =
-      go (goesOn h (roundOf ws s)) refl
-      (λ e.
-      rounds-end more (after s (roundOf ws s)) (length-after s (roundOf ws s) ∙ long)
-      (omega (arith, leaves-fewer s long e)))
-    where
-      go : (t : Bool) → goesOn h (roundOf ws s) ≡ t
-          → (goesOn h (roundOf ws s) ≡ true → EndsThere h (roundsFrom (roundOf ws) h more (after s (roundOf ws s))))
-          → EndsThere h (roundOf ws s ∷ cond t (roundsFrom (roundOf ws) h more (after s (roundOf ws s))) [])
-      go true e rest = ends-after more (after s (roundOf ws s)) (roundOf ws s) (rest e)
-      go false e rest = e
-
-  first-long : length (firstStart ws .remaining) ≡ n
-  unfolding firstStart
-  first-long = simp length-map
-
-  -- no opening is cut short: its last round is one after which it does not go on
-  pub opening-ends : EndsThere h (roundsFrom (roundOf ws) h (h .count) (firstStart ws))
-  opening-ends =
-      rounds-end (h .count) (firstStart ws) first-long
-      (omega (arith, few-live (firstStart ws), first-long, count-orders ws))

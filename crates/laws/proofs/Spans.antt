@@ -78,12 +78,12 @@ module _ {P : ℕ → Bool} {low high : ℕ} (span : Span P low high) (first : 1
 abbrev pub within : ℕ → ℕ → ℕ → Bool
 within low high p = leb low p && leb p high
 
-within-true : (low high p : ℕ) → within low high p ≡ true → (low ≤ p) × (p ≤ high)
+pub within-true : (low high p : ℕ) → within low high p ≡ true → (low ≤ p) × (p ≤ high)
 within-true low high p e =
     let t = both {a = leb low p} e in
     (leb-true low p (t .0), leb-true p high (t .1))
 
-within-is : (low high p : ℕ) → low ≤ p → p ≤ high → within low high p ≡ true
+pub within-is : (low high p : ℕ) → low ≤ p → p ≤ high → within low high p ≡ true
 within-is low high p l h = rw (le-leb low p l, le-leb p high h)
 
 common : (a b c d p : ℕ) → (within a b p && within c d p) ≡ within (max a c) (min b d) p

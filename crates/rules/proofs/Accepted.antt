@@ -46,6 +46,10 @@ pub record SoundSheet (ws : List ℕ) : Type 0 where
   pub words : length ws ≡ 5 + 3 * headingOf ws .count
   pub orders : (k : ℕ) (d : Order) → k < headingOf ws .count → SoundOrder (getD (ordersOf ws) k d)
 
+-- the band runs from D to H
+pub sound-band : {ws : List ℕ} → SoundSheet ws → headingOf ws .lower .0 ≤ headingOf ws .upper .0
+sound-band sound = omega (arith, sound .heading .above-lower, sound .heading .below-upper)
+
 sound-heading : (h : Heading) → pricesOnGrid h ≡ true → bandEncloses h ≡ true → leb (h .count) mostOrders ≡ true
     → SoundHeading h
 unfolding pricesOnGrid bandEncloses

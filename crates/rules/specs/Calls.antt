@@ -9,7 +9,7 @@ use lib.ListN.{length, drop}
 use Rattle.rules.specs.Answers.{Answer, gives, refuses, Check, row, downwards}
 use Rattle.rules.specs.AuctionPrice.{Level, level, volume}
 use Rattle.rules.specs.Band.{indicativePrice, nextBand, widenedBand}
-use Rattle.rules.specs.Demand3.{roundIn}
+use Rattle.rules.specs.Demand3.{roundIn, Demand3}
 use Rattle.rules.specs.Fills.{Largest}
 use Rattle.rules.specs.Grid.{onGrid}
 use Rattle.rules.specs.Limits.{filed, numbered, standing}
@@ -90,3 +90,18 @@ pub record FirstRound (ws before after : List ℕ) (answered : Answer) : Type 0 
       (record { situation = roundIn ws after 0 .situation; price = roundIn ws after 0 .price })
       (firstStanding ws)
       (roundIn ws after 0 .fills)
+
+-- The words that an answer gives; a refusal gives none.
+abbrev pub wordsGiven : Answer → List ℕ
+wordsGiven (gives words) = words
+wordsGiven (refuses n k) = []
+
+-- The call `opening` on the sheet ws: what it answered, with what the lent space held before and holds after.
+pub record Opened (ws before after : List ℕ) (answered : Answer) : Type 0 where
+  -- the answer is that of the rules
+  pub answers : answered ≡ answer (opening ws (length before))
+  -- and so is all that the space holds: the words written, and beyond them what it held; a refusal writes no word
+  pub holds : after ≡ spaceAfter (answer (opening ws (length before))) before
+  -- where the sheet is accepted and the space has the words, demand 3 holds of the sheet's words and the words given
+  pub demand3 : checkSheet ws ≡ gives [] → openingSpace (headingOf ws .count) ≤ length before
+      → Demand3 ws (wordsGiven answered)

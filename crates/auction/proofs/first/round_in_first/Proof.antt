@@ -4,7 +4,8 @@ use Prim.Native.Nat.{_+_}
 use borrow.Author.Needs.{needs}
 use Rattle.rules.specs.Opening.{roundWords}
 use Rattle.rules.proofs.Tests.{tests}
-use Rattle.auction.proofs.FirstWritten.{part-first, part-words, first-is, space-too-small, round-written, fits-its-words, few-of-sheet}
+use Rattle.run.proofs.Accepted.{few-of-sheet}
+use Rattle.auction.proofs.FirstWritten.{part-first, part-words, first-is, space-too-small, round-written, fits-its-words}
 use Rattle.auction.proofs.first.round_in_first.Statement.{statement}
 use Rattle.auction.proofs.first.round_in_first.Tie as tie
 
