@@ -7,7 +7,6 @@ use Prim.Native.Nat.{ℕ, _+_, _-_, _≤_, _<_}
 use native.Mathlib.Omega.{arith}
 use lib.Dec.{ltb}
 use lib.ListN.{length, take, drop, length-take}
-use lib.Seq.{take-at}
 use borrow.Author.Tests.{lt-ltb, le-ltb}
 use Rattle.curves.specs.Limits.{filedIn, remainingIn}
 use Rattle.laws.proofs.Bounds.{FitsWords}
@@ -17,7 +16,8 @@ use Rattle.laws.proofs.Run.{startAt, round-long, fills-count, number-fits}
 use Rattle.rounds.proofs.OneRound.{of-orders}
 use Rattle.rounds.specs.Rounds.{handedBack, withPlaces, ofOrders}
 use Rattle.rounds.specs.declared.Round as declared
-use Rattle.rules.specs.Answers.{gives, refuses, row, refused}
+use Rattle.rules.proofs.Lists.{first-words}
+use Rattle.rules.specs.Answers.{gives, refuses, row, refused, firstWords}
 use Rattle.rules.specs.Calls.{firstRound, firstStanding, answerBy, answer, FirstRound}
 use Rattle.rules.specs.Demand3.{roundIn}
 use Rattle.rules.specs.Fills.{Largest}
@@ -103,13 +103,13 @@ module _ {ws : List ℕ} {h : Heading} {orders : List Order} (a : AcceptedAs ws 
 
     -- enough words: those of the round stand in front
     pub round-written : {size : ℕ} {after : List ℕ} → size ≡ roundSpace (h .count) → size ≤ length before
-        → after ≡ roundWords (firstOf ws) ++ drop size before → FirstRound ws before after (gives (take size after))
+        → after ≡ roundWords (firstOf ws) ++ drop size before → FirstRound ws before after (gives (firstWords size after))
     round-written {size} {after} sized enough e =
         let words : length (roundWords (firstOf ws)) ≡ size = words-count ∙ rw (← count-is a) (sym sized) in
         let given : answer (firstRound ws (length before)) ≡ gives (roundWords (firstOf ws)) =
         round-answer (length before) ∙ rw (le-ltb (length before) (roundSpace (headingOf ws .count)) (omega (arith, count-is a))) in
         record {
-          answers = rw (given, e) (ap gives (take-at (roundWords (firstOf ws)) (drop size before) size words));
+          answers = rw (given, e) (ap gives (first-words (roundWords (firstOf ws)) (drop size before) size words));
           holds = rw (given, words) e;
           filled = λ accepted room. rw (e, first-said (drop size before)) first-largest;
         }

@@ -3,15 +3,14 @@
 use mathlib.Core.Bool.{cond}
 use mathlib.Core.List.{List}
 use mathlib.Core.Path.{_≡_, sym, ap, _∙_}
-use Prim.Native.Nat.{ℕ, _+_, _*_, _≤_, _<_}
-use native.Mathlib.Nat.{mul-le-mul-right}
+use Prim.Native.Nat.{ℕ, _≤_, _<_}
 use native.Mathlib.Omega.{arith}
 use lib.Dec.{ltb}
 use lib.ListN.{length, take, drop}
-use lib.Seq.{take-at}
 use borrow.Author.Tests.{lt-ltb, le-ltb}
 use Rattle.laws.proofs.Demand3Holds.{demand3-holds}
-use Rattle.rules.specs.Answers.{gives, refuses, row, refused}
+use Rattle.rules.proofs.Lists.{first-words}
+use Rattle.rules.specs.Answers.{gives, refuses, row, refused, firstWords}
 use Rattle.rules.specs.Calls.{opening, answerBy, answer, Opened}
 use Rattle.rules.specs.Opening.{openingWords, openingSpace}
 use Rattle.rules.specs.Sheet.{headingOf}
@@ -25,12 +24,6 @@ use Rattle.run.specs.Starts.{Ran}
 use Rattle.sheet.specs.Reading.{ReadsAs}
 use Rattle.sheet.specs.declared.Reading.{Reading}
 use Rattle.auction.proofs.FirstRound.{refused-sheet, not-accepted}
-
--- the words needed are few
-pub few-needed : (count : ℕ) → count ≤ 120 → (count + 1) * (count + 4) ≤ 15004
-few-needed count few =
-    let most : (count + 1) * (count + 4) ≤ 121 * (count + 4) = mul-le-mul-right {m = count + 1} {n = 121} (count + 4) (omega arith) in
-    omega arith
 
 module _ {ws : List ℕ} {h : Heading} {orders : List Order} (a : AcceptedAs ws h orders) where
   -- the answer where the sheet is accepted
@@ -54,13 +47,13 @@ module _ {ws : List ℕ} {h : Heading} {orders : List Order} (a : AcceptedAs ws 
 
     -- enough words: those of the opening stand in front
     pub opening-written : {needed : ℕ} → needed ≡ openingSpace (h .count) → needed ≤ length before → {written : ℕ} {after : List ℕ}
-        → Ran ws before after written → Opened ws before after (gives (take written after))
+        → Ran ws before after written → Opened ws before after (gives (firstWords written after))
     opening-written {needed} sized enough {written} {after} ran =
         let room : openingSpace (headingOf ws .count) ≤ length before = rw (sized, count-is a) at enough in
         let given : answer (opening ws (length before)) ≡ gives (openingWords ws) =
         opening-answer (length before) ∙ rw (le-ltb (length before) (openingSpace (headingOf ws .count)) room) in
-        let words : take written after ≡ openingWords ws =
-        rw (ran .holds) (take-at (openingWords ws) (drop written before) written (sym (ran .count))) in
+        let words : firstWords written after ≡ openingWords ws =
+        rw (ran .holds) (first-words (openingWords ws) (drop written before) written (sym (ran .count))) in
         record {
           answers = rw given (ap gives words);
           holds = rw (given, ← ran .count) (ran .holds);

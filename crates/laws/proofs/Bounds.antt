@@ -1,11 +1,11 @@
 -- What a round gives fits the words of a result: its prices are of the grid, its fills are no more than what remained, and its total no
--- more than 120 orders can have.
+-- more than 120 orders can have. The words of a result are no more than 120 orders need.
 use mathlib.Core.Bool.{Bool, true, false, cond}
 use mathlib.Core.List.{List}
 use mathlib.Core.Option.{none, some}
 use mathlib.Core.Path.{_≡_, refl}
-use Prim.Native.Nat.{ℕ, zero, suc, _*_, _≤_, _<_, max, min, zero-le}
-use native.Mathlib.Nat.{le-refl, le-trans}
+use Prim.Native.Nat.{ℕ, zero, suc, _+_, _*_, _≤_, _<_, max, min, zero-le}
+use native.Mathlib.Nat.{le-refl, le-trans, mul-le-mul}
 use native.Mathlib.Omega.{arith}
 use lib.Dec.{leb, ltb}
 use lib.ListN.{length}
@@ -20,8 +20,8 @@ use Rattle.rules.specs.Fills.{fillOf, total, fillsOf, purchasePrice}
 use Rattle.rules.specs.Grid.{lastPrice, movedInto}
 use Rattle.rules.specs.Limits.{sameSide, numbered}
 use Rattle.rules.specs.Lists.{sumTo}
-use Rattle.rules.specs.Opening.{Round, roundAt, roundOver}
-use Rattle.rules.specs.Sheet.{D, H, I}
+use Rattle.rules.specs.Opening.{Round, roundAt, roundOver, openingSpace}
+use Rattle.rules.specs.Sheet.{mostOrders, D, H, I}
 use Rattle.rules.specs.declared.Heading.{Heading}
 use Rattle.rules.specs.declared.Side.{Side}
 use Rattle.rules.specs.declared.Side.the-variants.{Buy, Sell}
@@ -56,6 +56,16 @@ module _ (h : Heading) (last : ℕ) (indicative : I h ≤ lastPrice) (before : l
             situation = zero-le;
             price = le-trans (crossed-potential h _ _ _ _ last (maximisers-run h os) .to) (buys-limit os (greatest h os));
           })
+
+-- ---- The words
+
+-- the words that an opening needs are most for 120 orders
+pub most-space : (n : ℕ) → n ≤ mostOrders → openingSpace n ≤ 15005
+most-space n few =
+    let rounds : n + 1 ≤ 121 = omega arith in
+    let words : n + 4 ≤ 124 = omega arith in
+    let product : (n + 1) * (n + 4) ≤ 121 * 124 = mul-le-mul rounds words in
+    omega arith
 
 -- ---- The round
 

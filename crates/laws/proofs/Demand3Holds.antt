@@ -5,7 +5,7 @@ use mathlib.Core.List.{List, [], _∷_, _++_, append-assoc}
 use mathlib.Core.Logic.{_⊎_, inl, inr}
 use mathlib.Core.Path.{_≡_, refl, sym, ap, _∙_}
 use Prim.Native.Nat.{ℕ, zero, suc, _+_, _-_, _*_, _/_, _≤_, _<_}
-use native.Mathlib.Nat.{le-refl, add-zero, mul-add-div-right, div-eq-of-lt}
+use native.Mathlib.Nat.{le-refl, add-zero, mul-le-mul-right, mul-add-div-right, div-eq-of-lt}
 use native.Mathlib.Omega.{arith}
 use lib.ListN.{length, getD, length-append}
 use lib.Seq.{getD-at}
@@ -19,7 +19,7 @@ use Rattle.rules.specs.Answers.{gives}
 use Rattle.rules.specs.Demand3.{count, roundsIn, roundIn, startIn, standingIn, Kinds, HoldsIn, Demand3}
 use Rattle.rules.specs.Fills.{fillOf}
 use Rattle.rules.specs.Lists.{listed}
-use Rattle.rules.specs.Opening.{Round, roundWords, roundsWords, endingAfter, openingWords}
+use Rattle.rules.specs.Opening.{Round, roundWords, roundsWords, endingAfter, openingWords, openingSpace}
 use Rattle.rules.specs.Sheet.{headingOf, checkSheet}
 use Rattle.rules.specs.Words.{word}
 
@@ -129,3 +129,12 @@ demand3-holds ws accepted =
     let sheet = accepted-sound ws accepted in
     let ending = ending-round ws (sound-band sheet) in
     claim-holds ws sheet (ending .number) (ending .last)
+
+-- the result of an opening has no more words than its space needs
+pub result-fits : (ws : List ℕ) → checkSheet ws ≡ gives [] → length (openingWords ws) ≤ openingSpace (count ws)
+result-fits ws accepted =
+    let claim = demand3-holds ws accepted in
+    let rounds : ℕ = roundsIn ws (openingWords ws) in
+    let most : rounds * (count ws + 4) ≤ (count ws + 1) * (count ws + 4) =
+    mul-le-mul-right {m = rounds} {n = count ws + 1} (count ws + 4) (claim .most) in
+    omega (arith, claim .size)

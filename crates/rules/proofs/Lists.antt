@@ -5,8 +5,9 @@ use Prim.Native.Nat.{ℕ, zero, suc, _+_, _-_, _≤_, _<_}
 use native.Mathlib.Decide.{decLe}
 use native.Mathlib.Numerals.{add-one}
 use native.Mathlib.Omega.{arith}
-use lib.ListN.{length, getD, set, replicate, length-append, List·getD-append}
-use lib.Seq.{set-at, getD-at, ext-getD}
+use lib.ListN.{length, getD, take, set, replicate, length-append, length-take, List·getD-append}
+use lib.Seq.{set-at, getD-at, getD-take, ext-getD}
+use Rattle.rules.specs.Answers.{firstWords}
 use Rattle.rules.specs.Lists.{listed}
 
 pub listed-same : {A : Type 0} (f g : ℕ → A) (n : ℕ) → ((j : ℕ) → j < n → f j ≡ g j) → listed f n ≡ listed g n
@@ -64,3 +65,13 @@ module _ {A : Type 0} (f : ℕ → A) where
   filled-at x m n i d h =
       let e : length (listed f n) ≡ n = length-listed n in
       List·getD-append (listed f n) (replicate (m - n) x) d i (omega arith) ∙ getD-listed n i d h
+
+-- ---- The first words of a space
+
+-- those of a space that begins with some words
+pub first-words : (words rest : List ℕ) (count : ℕ) → length words ≡ count → firstWords count (words ++ rest) ≡ words
+first-words words rest count long = listed-is _ count 0 words long (λ i l. List·getD-append words rest 0 i (omega arith))
+
+pub first-taken : (space : List ℕ) (count : ℕ) → count ≤ length space → firstWords count space ≡ take count space
+first-taken space count few =
+    listed-is _ count 0 (take count space) (length-take count space ∙ omega arith) (λ i l. sym (getD-take count space i 0 l))

@@ -3,7 +3,8 @@
 use mathlib.Core.Bool.{Bool, cond}
 use mathlib.Core.List.{List, [], _∷_}
 use Prim.Native.Nat.{ℕ}
-use lib.ListN.{take}
+use lib.ListN.{getD}
+use Rattle.rules.specs.Lists.{listed}
 use Rattle.rules.specs.declared.BandAnswer.{BandAnswer}
 use Rattle.rules.specs.declared.BandAnswer.the-variants.{Bounds, Refused as NoBand}
 use Rattle.rules.specs.declared.Checked.{Checked}
@@ -15,7 +16,7 @@ use Rattle.rules.specs.declared.OrderFault.the-variants.{Kind, Terms, Qu
 use Rattle.rules.specs.declared.PriceAnswer.{PriceAnswer}
 use Rattle.rules.specs.declared.PriceAnswer.the-variants.{At, Refused as NoPrice}
 use Rattle.rules.specs.declared.Refusal.{Refusal}
-use Rattle.rules.specs.declared.Refusal.the-variants.{FewWords, HeadingKind, HeadingPrice, Length, Order, Argument, Band, Space}
+use Rattle.rules.specs.declared.Refusal.the-variants.{FewWords, HeadingKind, HeadingPrice, Length, Order, Argument, Band, Space, Input}
 use Rattle.rules.specs.declared.SpaceAnswer.{SpaceAnswer}
 use Rattle.rules.specs.declared.SpaceAnswer.the-variants.{Written, Refused as NoWords}
 
@@ -48,7 +49,7 @@ faultNumber Quantity = 7
 faultNumber Ignored = 8
 
 -- 1 fewer than 5 words; 2 a wrong kind in words 0–4; 3 a price off the grid, or not D < I < H;
--- 4 n above 120, or wrong length; 5–8 at an order; 9 arguments; 11 band; 10 space.
+-- 4 n above 120, or wrong length; 5–8 at an order; 9 arguments; 11 band; 10 space; 12 program input.
 abbrev pub refusalNumber : Refusal → ℕ
 refusalNumber FewWords = 1
 refusalNumber HeadingKind = 2
@@ -58,6 +59,7 @@ refusalNumber (Order f k) = faultNumber f
 refusalNumber Argument = 9
 refusalNumber Band = 11
 refusalNumber Space = 10
+refusalNumber Input = 12
 
 -- For 5–8, the order number, else 0.
 abbrev pub refusalOrder : Refusal → ℕ
@@ -69,6 +71,7 @@ refusalOrder (Order f k) = k
 refusalOrder Argument = 0
 refusalOrder Band = 0
 refusalOrder Space = 0
+refusalOrder Input = 0
 
 abbrev pub refused : Refusal → Answer
 refused r = refuses (refusalNumber r) (refusalOrder r)
@@ -87,9 +90,13 @@ abbrev pub curvesAnswer : CurvesAnswer → Answer
 curvesAnswer (AtPrice demand supply volume) = gives (demand .0 ∷ supply .0 ∷ volume .0 ∷ [])
 curvesAnswer (NoCurves r) = refused r
 
+-- The first words of a space, as many as counted.
+abbrev pub firstWords : ℕ → List ℕ → List ℕ
+firstWords count space = listed (λ i. getD space i 0) count
+
 -- The words written, which are the first of those that the space holds afterwards.
 abbrev pub spaceAnswer : SpaceAnswer → List ℕ → Answer
-spaceAnswer (Written count) space = gives (take count space)
+spaceAnswer (Written count) space = gives (firstWords count space)
 spaceAnswer (NoWords r) space = refused r
 
 -- The lower bound, then the upper.

@@ -11,4 +11,5 @@ pub mod Opening
 pub mod Demand3
 pub mod Band
 pub mod Calls
+pub mod Listing
 pub mod Cases

@@ -101,6 +101,8 @@ pub enum Refusal {
     Band,
     // Too few words in the lent space.
     Space,
+    // Bytes that are no sheet: not a multiple of 4, or too many.
+    Input,
 }
 
 impl OrderFault {
@@ -130,6 +132,7 @@ impl Refusal {
             Refusal::Argument => 9,
             Refusal::Band => 11,
             Refusal::Space => 10,
+            Refusal::Input => 12,
         }
     }
 
@@ -146,6 +149,7 @@ impl Refusal {
             Refusal::Argument => 0,
             Refusal::Band => 0,
             Refusal::Space => 0,
+            Refusal::Input => 0,
         }
     }
 }

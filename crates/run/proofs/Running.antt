@@ -5,14 +5,14 @@ use mathlib.Core.Bool.{Bool, true, false}
 use mathlib.Core.List.{List, [], _∷_, _++_, append-assoc}
 use mathlib.Core.Path.{_≡_, refl, sym, ap, _∙_}
 use Prim.Native.Nat.{ℕ, suc, _+_, _-_, _*_, _≤_, _<_}
-use native.Mathlib.Nat.{suc-mul, mul-le-mul-right}
+use native.Mathlib.Nat.{le-trans, suc-mul, mul-le-mul-right}
 use native.Mathlib.Numerals.{add-one}
 use native.Mathlib.Omega.{arith}
 use lib.Dec.{eqb}
 use lib.ListN.{length, getD, take, drop, set, length-append, length-drop}
 use lib.Seq.{take-at, drop-at, drop-drop, drop-cons, set-at}
 use Rattle.curves.specs.Limits.{filedIn, remainingIn}
-use Rattle.laws.proofs.Bounds.{FitsWords}
+use Rattle.laws.proofs.Bounds.{most-space, FitsWords}
 use Rattle.laws.proofs.Rounds.{live, leaves-fewer, count-orders}
 use Rattle.laws.proofs.Run.{startAt, roundNumber, GoesTo, goes-further, start-long, fills-count, few-rounds, words-more, words-count, opening-is, number-fits}
 use Rattle.rounds.proofs.OneRound.{of-orders}
@@ -70,23 +70,25 @@ module _ {ws : List ℕ} {h : Heading} {orders : List Order} (a : AcceptedAs ws 
   module _ {before space : List ℕ} {start : Start} {at k : ℕ} (v : Running ws h before space start at k) where
     -- ---- The room
 
-    -- the stretch of round k ends before the space does
-    pub room : openingSpace (h .count) ≤ length before → at + roundSpace (h .count) < length before
-    room enough =
+    -- the stretch of round k ends before the words that are needed do
+    stretch : at + roundSpace (h .count) < openingSpace (h .count)
+    stretch =
         let few : k ≤ count ws = omega (arith, few-rounds ws band k (v .goes)) in
         let most : k * (count ws + 4) ≤ count ws * (count ws + 4) = mul-le-mul-right {m = k} {n = count ws} (count ws + 4) few in
         let more : (count ws + 1) * (count ws + 4) ≡ count ws * (count ws + 4) + (count ws + 4) =
         rw (add-one (count ws)) (suc-mul (count ws) (count ws + 4)) in
-        let needed : (count ws + 1) * (count ws + 4) + 1 ≤ length before = rw (count-is a) at enough in
-        omega (arith, v .place, count-is a)
+        rw (count-is a) (omega (arith, v .place))
+
+    pub room : openingSpace (h .count) ≤ length before → at + roundSpace (h .count) < length before
+    room enough = le-trans stretch enough
 
     pub few-run : k ≤ 120
     few-run = omega (arith, few-rounds ws band k (v .goes), sound a .heading .count)
 
     pub few-words : at + roundSpace (h .count) ≤ 15004
     few-words =
-        let most : k * (count ws + 4) ≤ 120 * (count ws + 4) = mul-le-mul-right {m = k} {n = 120} (count ws + 4) few-run in
-        omega (arith, v .place, count-is a, sound a .heading .count)
+        let few : h .count ≤ 120 = omega (arith, count-is a, sound a .heading .count) in
+        omega (arith, stretch, most-space (h .count) few)
 
     words-long : length (roundsWords (listed (roundNumber ws) k)) ≡ at
     words-long = words-count ws k ∙ sym (v .place)

@@ -1,0 +1,86 @@
+-- Document 01, "Listing", and refusal 12 of "Where a refusal arises": what the opening program prints for the bytes that it reads.
+use mathlib.Core.Bool.{Bool, not, _&&_, cond}
+use mathlib.Core.List.{List, [], _∷_, _++_}
+use mathlib.Core.Path.{_≡_}
+use Prim.Native.Char.{code}
+use Prim.Native.String.{String, [] as empty, _∷_ as _and_}
+use Prim.Native.Nat.{ℕ, zero, suc, _+_, _*_, _/_, _%_}
+use lib.Dec.{leb, ltb, eqb}
+use lib.ListN.{length, getD, drop}
+use Rattle.io.specs.Digits.{glyph, digits}
+use Rattle.rules.specs.Answers.{Answer, gives, refuses, row, downwards}
+use Rattle.rules.specs.Lists.{listed}
+use Rattle.rules.specs.Opening.{openingWords}
+use Rattle.rules.specs.Sheet.{sheetChecks}
+
+-- ---- The sheet
+
+-- Program input, 12: bytes not a multiple of 4, or above 1,460.
+unfoldable pub inputFits : List ℕ → Bool
+inputFits bytes = eqb (length bytes % 4) 0 && leb (length bytes) 1460
+
+-- Word i of the bytes, high byte first.
+unfoldable pub wordIn : List ℕ → ℕ → ℕ
+wordIn bytes i =
+    getD bytes (4 * i) 0 * 0x100_0000
+    + getD bytes (4 * i + 1) 0 * 0x1_0000
+    + getD bytes (4 * i + 2) 0 * 0x100
+    + getD bytes (4 * i + 3) 0
+
+-- The opening program reads a sheet from standard input.
+unfoldable pub sheetIn : List ℕ → List ℕ
+sheetIn bytes = listed (wordIn bytes) (length bytes / 4)
+
+-- ---- The printed text, in ASCII
+
+-- The codes of a text.
+abbrev pub ascii : String → List ℕ
+ascii empty = []
+ascii (c and s) = code c ∷ ascii s
+
+-- Each result word as 8 lower-case hexadecimal digits a line,
+unfoldable pub wordLine : ℕ → List ℕ
+wordLine w = digits 16 8 w ++ ascii "\n"
+
+-- one line after the other,
+unfoldable pub wordLines : List ℕ → List ℕ
+wordLines [] = []
+wordLines (w ∷ ws) = wordLine w ++ wordLines ws
+
+-- Figures are decimal: the last figure is n % 10, those before it are the figures of n / 10. Here at most `most` of them;
+unfoldable pub figuresIn : ℕ → ℕ → List ℕ
+figuresIn zero n = []
+figuresIn (suc most) n = cond (ltb n 10) [] (figuresIn most (n / 10)) ++ (glyph (n % 10) ∷ [])
+
+-- a number n has no more than n + 1.
+unfoldable pub figures : ℕ → List ℕ
+figures n = figuresIn (n + 1) n
+
+-- or `refused`, number, order number, with single spaces.
+unfoldable pub refusalLine : ℕ → ℕ → List ℕ
+refusalLine number order =
+    ascii "refused " ++ figures number ++ ascii " " ++ figures order ++ ascii "\n"
+
+-- The text of an answer.
+unfoldable pub printedAnswer : Answer → List ℕ
+printedAnswer (gives words) = wordLines words
+printedAnswer (refuses number order) = refusalLine number order
+
+-- What the program answers: the bytes are checked first, then the sheet; an accepted sheet gives the words of its opening.
+unfoldable pub programAnswer : List ℕ → Answer
+programAnswer bytes =
+    downwards (row 12 (not (inputFits bytes)) ∷ sheetChecks (sheetIn bytes)) (gives (openingWords (sheetIn bytes)))
+
+-- What the program prints for the bytes that it reads.
+abbrev pub printed : List ℕ → List ℕ
+printed bytes = printedAnswer (programAnswer bytes)
+
+-- A text in front of a lent space: the count of its bytes, with what the space held before and holds after.
+pub record InFront (text before after : List ℕ) (count : ℕ) : Type 0 where
+  pub counted : count ≡ length text
+  -- beyond the text the space keeps its content
+  pub holds : after ≡ text ++ drop count before
+
+-- The program's text for the bytes that it reads, in front of a lent space.
+abbrev pub Printed : (bytes before after : List ℕ) → ℕ → Type 0
+Printed bytes before after count = InFront (printed bytes) before after count
