@@ -12,13 +12,14 @@ use Rattle.rules.proofs.Quick.{quickRound, quickAnswer, quick-answer}
 use Rattle.rules.specs.Answers.{Answer, gives, refuses, downwards}
 use Rattle.rules.specs.AuctionPrice.{level, uncrossed, auctionBy}
 use Rattle.rules.specs.Band.{bandStands, indicativePrice, nextUpper, nextLower, nextBandFor, percentOf, nextBand, widenedUpper, widenedLower, widenedFor, widenedBand}
-use Rattle.rules.specs.Calls.{answerBy}
-use Rattle.rules.specs.Cases.{Case, AllHold, documentCases, furtherCases}
+use Rattle.rules.specs.Calls.{answerBy, answer, wordsGiven}
+use Rattle.rules.specs.Cases.{Case, AllHold, documentCases, furtherCases, listing, listingResult, AllPrint, printings}
 use Rattle.rules.specs.Fills.{eligible, firstOf, total, offered, ahead, share, reaches, largestTotal, fillsOf}
 use Rattle.rules.specs.Grid.{onGrid, movedInto}
 use Rattle.rules.specs.Limits.{piecesAt, enteredLimit, entered, stepped, limitInForce, standingBy}
+use Rattle.rules.specs.Listing.{inputFits, wordIn, sheetIn, wordLine, wordLines, figuresIn, figures, refusalLine, printedAnswer, programAnswer}
 use Rattle.rules.specs.Lists.{listed, sumTo, everyTo, largestTo}
-use Rattle.rules.specs.Opening.{roundAt, firstStart, after, goesOn, endingAfter, roundsFrom, roundWords, roundsWords, endingOf, resultWords, openingBy}
+use Rattle.rules.specs.Opening.{roundAt, firstStart, after, goesOn, endingAfter, roundsFrom, roundWords, roundsWords, endingOf, resultWords, openingBy, openingWords}
 use Rattle.rules.specs.Sheet.{headingKinds, headingFrom, headingOf, pricesOnGrid, bandEncloses, lengthFits, orderKinds, termsAllowed, quantityAllowed, ignoredAllowed, sideOf, termsOf, orderFrom, orderAt, ordersOf, headingChecks, orderChecks, ordersChecks, sheetChecks, checkSheet}
 
 -- a test of two answers, and what it tells
@@ -69,3 +70,15 @@ cases-hold = (
   all-same documentCases refl,
   all-same furtherCases refl,
 )
+
+-- ---- The program's text
+
+-- what P1 says of the words of the listing's opening
+listing-opened : openingWords listing ≡ listingResult
+unfolding openingWords answer answerBy downwards documentCases headingKinds headingFrom headingOf pricesOnGrid bandEncloses lengthFits orderKinds termsAllowed quantityAllowed ignoredAllowed headingChecks orderChecks ordersChecks sheetChecks onGrid listed
+listing-opened = ap wordsGiven (cases-hold .0 .0)
+
+-- the program prints the listing, and the refusals
+pub printings-hold : AllPrint printings
+unfolding printings programAnswer inputFits sheetIn wordIn printedAnswer wordLines wordLine refusalLine figures figuresIn downwards headingKinds headingFrom headingOf pricesOnGrid bandEncloses lengthFits orderKinds termsAllowed quantityAllowed ignoredAllowed headingChecks orderChecks ordersChecks sheetChecks onGrid listed
+printings-hold = (ap wordLines listing-opened, (refl, (refl, (refl, (refl, tt)))))

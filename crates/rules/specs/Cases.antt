@@ -1,11 +1,13 @@
 -- Document 01, "Cases P1–P12", and further cases, as one table with a common statement: the rules answer what the document
--- says. D 90, H 110, last 100, I 100, where a sheet says nothing else.
+-- says. D 90, H 110, last 100, I 100, where a sheet says nothing else. Then "Listing", from bytes to text.
 use mathlib.Core.List.{List, [], _∷_, _++_, map}
 use mathlib.Core.Path.{_≡_}
 use Prim.Native.Nat.{ℕ, _+_, _*_}
-use lib.ListN.{length}
+use Prim.Native.String.{String}
+use lib.ListN.{length, set, replicate}
 use Rattle.rules.specs.Answers.{Answer, gives, refuses}
 use Rattle.rules.specs.Calls.{Call, check, stepperLimit, curvesAt, firstRound, opening, indicative, next, widen, answer}
+use Rattle.rules.specs.Listing.{ascii, printed}
 use Rattle.rules.specs.Words.{word}
 
 -- ---- The table's statement
@@ -76,7 +78,7 @@ opens orders rounds ending =
 abbrev pub standsIn : List (List ℕ) → ℕ → ℕ → Case
 standsIn orders k price = case (stepperLimit (sheet orders) k) (gives (price ∷ []))
 
--- The sheet of the listing, and what its opening prints.
+-- The sheet of the listing, and the words of its result.
 abbrev pub listing : List ℕ
 listing =
     0x1000005a
@@ -92,8 +94,8 @@ listing =
     ∷ 0x90000000
     ∷ []
 
-abbrev pub printed : List ℕ
-printed =
+abbrev pub listingResult : List ℕ
+listingResult =
     0xa0000000
     ∷ 0xb0000069
     ∷ 0xc0000069
@@ -114,7 +116,7 @@ printed =
 unfoldable pub documentCases : List Case
 documentCases =
     -- P1: the listing
-    case (opening listing 19) (gives printed)
+    case (opening listing 19) (gives listingResult)
     -- P2: no orders: situation 4, price 100
     ∷ opens [] (run 4 100 0 0 [] ∷ []) 0
     -- P3: buys 5 at 95, 5 at 80, sell 10 at 70: auction 80, purchase 90, total 5, ending 2
@@ -174,6 +176,13 @@ furtherCases =
     ∷ opens (buy 3 104 ∷ stepperBuy 5 103 0 ∷ sell 3 95 ∷ [])
     (run 0 103 103 3 (3 ∷ 0 ∷ 3 ∷ []) ∷ run 2 100 0 0 (0 ∷ 0 ∷ 0 ∷ []) ∷ [])
     0
+    -- three rounds: the Stepper stands at 103 while both rivals do, and at D when the first is filled; only then does the second trade
+    ∷ opens (allOrNoneBuy 4 104 ∷ stepperBuy 2 110 4 ∷ allOrNoneBuy 4 102 ∷ allOrNoneSell 4 98 ∷ allOrNoneSell 4 99 ∷ [])
+    (run 0 102 102 4 (4 ∷ 0 ∷ 0 ∷ 4 ∷ 0 ∷ [])
+    ∷ run 0 102 102 4 (0 ∷ 0 ∷ 4 ∷ 0 ∷ 4 ∷ [])
+    ∷ run 2 100 0 0 (0 ∷ 0 ∷ 0 ∷ 0 ∷ 0 ∷ [])
+    ∷ [])
+    0
     -- the purchase price 105 becomes the last purchase price
     ∷ opens (buy 4 105 ∷ sell 4 105 ∷ []) (run 0 105 105 4 (4 ∷ 4 ∷ []) ∷ run 4 105 0 0 (0 ∷ 0 ∷ []) ∷ []) 0
     -- basic before all-or-none at the same limit, though filed later
@@ -214,4 +223,46 @@ furtherCases =
     ∷ case (indicative 90 110 0 0 80) (gives (90 ∷ []))
     ∷ case (indicative 90 110 0 0 130) (gives (110 ∷ []))
     ∷ case (indicative 90 90 1 100 100) (refuses 9 0)
+    ∷ []
+
+-- ---- The program's text
+
+-- Bytes that the opening program reads, and the text that it prints.
+pub record Printing : Type 0 where
+  pub bytes : List ℕ
+  pub text : String
+
+abbrev pub prints : List ℕ → String → Printing
+prints bytes text = record { bytes = bytes; text = text }
+
+abbrev pub AllPrint : List Printing → Type 0
+AllPrint [] = Unit {0}
+AllPrint (p ∷ ps) = (printed (p .bytes) ≡ ascii (p .text)) × AllPrint ps
+
+-- The bytes of the listing's sheet.
+abbrev pub listingBytes : List ℕ
+listingBytes =
+    0x10 ∷ 0x00 ∷ 0x00 ∷ 0x5a
+    ∷ 0x20 ∷ 0x00 ∷ 0x00 ∷ 0x6e
+    ∷ 0x30 ∷ 0x00 ∷ 0x00 ∷ 0x64
+    ∷ 0x40 ∷ 0x00 ∷ 0x00 ∷ 0x64
+    ∷ 0x50 ∷ 0x00 ∷ 0x00 ∷ 0x02
+    ∷ 0x60 ∷ 0x00 ∷ 0x00 ∷ 0x69
+    ∷ 0x80 ∷ 0x00 ∷ 0x00 ∷ 0x0a
+    ∷ 0x90 ∷ 0x00 ∷ 0x00 ∷ 0x00
+    ∷ 0x70 ∷ 0x00 ∷ 0x00 ∷ 0x5f
+    ∷ 0x80 ∷ 0x00 ∷ 0x00 ∷ 0x04
+    ∷ 0x90 ∷ 0x00 ∷ 0x00 ∷ 0x00
+    ∷ []
+
+unfoldable pub printings : List Printing
+printings =
+    -- the listing
+    prints listingBytes "a0000000\nb0000069\nc0000069\nd0000004\ne0000004\ne0000004\na0000002\nb0000069\nc0000000\nd0000000\ne0000000\ne0000000\nf0000002\n"
+    -- no input at all, a byte, and 1,464 bytes
+    ∷ prints [] "refused 1 0\n"
+    ∷ prints (16 ∷ []) "refused 12 0\n"
+    ∷ prints (replicate 1464 0) "refused 12 0\n"
+    -- a wrong kind in the listing's order 1
+    ∷ prints (set listingBytes 32 0x50) "refused 5 1\n"
     ∷ []

@@ -1,8 +1,6 @@
 -- `write_answer` meets its contract: the words of an answer are the first of the space, which has as many.
-use mathlib.Core.Path.{ap}
-use Prim.Native.Nat.{_≤_}
 use native.Mathlib.Omega.{arith}
-use lib.ListN.{length, length-take}
+use lib.ListN.{length-take}
 use Rattle.rules.proofs.Lists.{first-taken}
 use Rattle.rules.specs.Listing.{printedAnswer}
 use borrow.Author.Needs.{needs}

@@ -14,8 +14,7 @@ opening-requires c κs = search needs
 write-answer-requires : tie.Need-write-answer-requires
 write-answer-requires c κs =
     let opened = c .before .before .before .before .opening in
-    let start = c .before .before .before .before .before .before .before .before .before .before .before .before .before .before .before in
-    (
+    let start = c .before .before .before .before .before .before .before .before .before .before .before .before .before .before .before in (
       omega (arith, start .pre .2),
       omega (arith, start .pre .1, start .pre .2, opened .kept .1 .0),
       written-within _ (start .args .space .now) (start .pre .1) (opened .result) _ (opened .kept .1 .0) (opened .ensures .answers),
