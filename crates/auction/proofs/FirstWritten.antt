@@ -2,7 +2,7 @@
 -- words in front of the space are those of the rules, and they say what the round is: its fills are those that F1–F4 leave.
 use mathlib.Core.Bool.{cond}
 use mathlib.Core.List.{List, [], _++_, map}
-use mathlib.Core.Path.{_≡_, sym, ap, _∙_}
+use mathlib.Core.Path.{_≡_, sym, _∙_}
 use Prim.Native.Nat.{ℕ, _+_, _-_, _≤_, _<_}
 use native.Mathlib.Omega.{arith}
 use lib.Dec.{ltb}
@@ -16,7 +16,6 @@ use Rattle.laws.proofs.Run.{startAt, round-long, fills-count, number-fits}
 use Rattle.rounds.proofs.OneRound.{of-orders}
 use Rattle.rounds.specs.Rounds.{handedBack, withPlaces, ofOrders}
 use Rattle.rounds.specs.declared.Round as declared
-use Rattle.rules.proofs.Lists.{first-words}
 use Rattle.rules.specs.Answers.{gives, refuses, row, refused, firstWords}
 use Rattle.rules.specs.Calls.{firstRound, firstStanding, answerBy, answer, FirstRound}
 use Rattle.rules.specs.Demand3.{roundIn}
@@ -35,6 +34,7 @@ use Rattle.run.specs.Accepted.{AcceptedAs, OfSheet}
 use Rattle.sheet.specs.Reading.{ReadsAs}
 use Rattle.sheet.specs.declared.Reading.{Reading}
 use Rattle.auction.proofs.FirstRound.{refused-sheet, not-accepted}
+use Rattle.auction.proofs.Spaces.{refusal-writes, words-write}
 
 -- the first round of a sheet, by the rules
 abbrev firstOf : List ℕ → Round
@@ -95,11 +95,7 @@ module _ {ws : List ℕ} {h : Heading} {orders : List Order} (a : AcceptedAs ws 
         let small : length before < roundSpace (headingOf ws .count) = omega (arith, count-is a) in
         let refusal : answer (firstRound ws (length before)) ≡ refuses 10 0 =
         round-answer (length before) ∙ rw (lt-ltb (length before) (roundSpace (headingOf ws .count)) small) in
-        record {
-          answers = sym refusal;
-          holds = rw refusal;
-          filled = λ accepted enough. absurd (omega arith);
-        }
+        record { writes = refusal-writes refusal; filled = λ accepted enough. absurd (omega arith) }
 
     -- enough words: those of the round stand in front
     pub round-written : {size : ℕ} {after : List ℕ} → size ≡ roundSpace (h .count) → size ≤ length before
@@ -109,8 +105,7 @@ module _ {ws : List ℕ} {h : Heading} {orders : List Order} (a : AcceptedAs ws 
         let given : answer (firstRound ws (length before)) ≡ gives (roundWords (firstOf ws)) =
         round-answer (length before) ∙ rw (le-ltb (length before) (roundSpace (headingOf ws .count)) (omega (arith, count-is a))) in
         record {
-          answers = rw (given, e) (ap gives (first-words (roundWords (firstOf ws)) (drop size before) size words));
-          holds = rw (given, words) e;
+          writes = words-write given words e;
           filled = λ accepted room. rw (e, first-said (drop size before)) first-largest;
         }
 
@@ -128,9 +123,7 @@ module _ (ws : List ℕ) {r : Reading} (reads : ReadsAs ws r) where
   pub round-refused : {refusal : Refusal} → r .checked ≡ Refused refusal → {space : List ℕ} → FirstRound ws space space (refused refusal)
   unfolding answer answerBy
   round-refused {refusal} e {space} =
-      let refusal-is : refused refusal ≡ answer (firstRound ws (length space)) = refused-sheet ws reads e _ _ in
       record {
-        answers = refusal-is;
-        holds = rw (← refusal-is);
+        writes = refusal-writes (sym (refused-sheet ws reads e _ _));
         filled = λ accepted room. absurd (not-accepted ws reads e accepted);
       }

@@ -2,7 +2,7 @@
 -- holds; too small a space, or a refused sheet, leaves the space as it was.
 use mathlib.Core.Bool.{cond}
 use mathlib.Core.List.{List}
-use mathlib.Core.Path.{_≡_, sym, ap, _∙_}
+use mathlib.Core.Path.{_≡_, sym, _∙_}
 use Prim.Native.Nat.{ℕ, _≤_, _<_}
 use native.Mathlib.Omega.{arith}
 use lib.Dec.{ltb}
@@ -24,6 +24,7 @@ use Rattle.run.specs.Starts.{Ran}
 use Rattle.sheet.specs.Reading.{ReadsAs}
 use Rattle.sheet.specs.declared.Reading.{Reading}
 use Rattle.auction.proofs.FirstRound.{refused-sheet, not-accepted}
+use Rattle.auction.proofs.Spaces.{refusal-writes, words-write}
 
 module _ {ws : List ℕ} {h : Heading} {orders : List Order} (a : AcceptedAs ws h orders) where
   -- the answer where the sheet is accepted
@@ -39,11 +40,7 @@ module _ {ws : List ℕ} {h : Heading} {orders : List Order} (a : AcceptedAs ws 
         let small : length before < openingSpace (headingOf ws .count) = rw (sized, count-is a) at few in
         let refusal : answer (opening ws (length before)) ≡ refuses 10 0 =
         opening-answer (length before) ∙ rw (lt-ltb (length before) (openingSpace (headingOf ws .count)) small) in
-        record {
-          answers = sym refusal;
-          holds = rw refusal;
-          demand3 = λ accepted enough. absurd (omega arith);
-        }
+        record { writes = refusal-writes refusal; demand3 = λ accepted enough. absurd (omega arith) }
 
     -- enough words: those of the opening stand in front
     pub opening-written : {needed : ℕ} → needed ≡ openingSpace (h .count) → needed ≤ length before → {written : ℕ} {after : List ℕ}
@@ -55,8 +52,7 @@ module _ {ws : List ℕ} {h : Heading} {orders : List Order} (a : AcceptedAs ws 
         let words : firstWords written after ≡ openingWords ws =
         rw (ran .holds) (first-words (openingWords ws) (drop written before) written (sym (ran .count))) in
         record {
-          answers = rw given (ap gives words);
-          holds = rw (given, ← ran .count) (ran .holds);
+          writes = words-write given (sym (ran .count)) (ran .holds);
           demand3 = λ accepted space. rw words (demand3-holds ws accepted);
         }
 
@@ -65,9 +61,7 @@ pub opening-refused : (ws : List ℕ) {r : Reading} → ReadsAs ws r → {refusa
     → Opened ws space space (refused refusal)
 unfolding answer answerBy
 opening-refused ws reads {refusal} e {space} =
-    let refusal-is : refused refusal ≡ answer (opening ws (length space)) = refused-sheet ws reads e _ _ in
     record {
-      answers = refusal-is;
-      holds = rw (← refusal-is);
+      writes = refusal-writes (sym (refused-sheet ws reads e _ _));
       demand3 = λ accepted room. absurd (not-accepted ws reads e accepted);
     }

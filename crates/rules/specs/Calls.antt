@@ -77,12 +77,16 @@ abbrev pub spaceAfter : Answer → List ℕ → List ℕ
 spaceAfter (gives words) space = words ++ drop (length words) space
 spaceAfter (refuses n k) space = space
 
--- The call `first round` on the sheet ws: what it answered, with what the lent space held before and holds after.
-pub record FirstRound (ws before after : List ℕ) (answered : Answer) : Type 0 where
+-- A call that is lent a space: what it answered, with what the space held before and holds after.
+pub record Writes (call : Call) (before after : List ℕ) (answered : Answer) : Type 0 where
   -- the answer is that of the rules
-  pub answers : answered ≡ answer (firstRound ws (length before))
+  pub answers : answered ≡ answer call
   -- and so is all that the space holds: the words written, and beyond them what it held; a refusal writes no word
-  pub holds : after ≡ spaceAfter (answer (firstRound ws (length before))) before
+  pub holds : after ≡ spaceAfter (answer call) before
+
+-- The call `first round` on the sheet ws.
+pub record FirstRound (ws before after : List ℕ) (answered : Answer) : Type 0 where
+  pub writes : Writes (firstRound ws (length before)) before after answered
   -- where the sheet is accepted and the space has the words, the fills that stand in the space meet F1–F4, and every other list of n
   -- fills that meets them has a smaller total
   pub filled : checkSheet ws ≡ gives [] → roundSpace (headingOf ws .count) ≤ length before
@@ -96,12 +100,9 @@ abbrev pub wordsGiven : Answer → List ℕ
 wordsGiven (gives words) = words
 wordsGiven (refuses n k) = []
 
--- The call `opening` on the sheet ws: what it answered, with what the lent space held before and holds after.
+-- The call `opening` on the sheet ws.
 pub record Opened (ws before after : List ℕ) (answered : Answer) : Type 0 where
-  -- the answer is that of the rules
-  pub answers : answered ≡ answer (opening ws (length before))
-  -- and so is all that the space holds: the words written, and beyond them what it held; a refusal writes no word
-  pub holds : after ≡ spaceAfter (answer (opening ws (length before))) before
+  pub writes : Writes (opening ws (length before)) before after answered
   -- where the sheet is accepted and the space has the words, demand 3 holds of the sheet's words and the words given
   pub demand3 : checkSheet ws ≡ gives [] → openingSpace (headingOf ws .count) ≤ length before
       → Demand3 ws (wordsGiven answered)

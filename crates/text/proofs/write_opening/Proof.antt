@@ -17,7 +17,7 @@ write-answer-requires c κs =
     let start = c .before .before .before .before .before .before .before .before .before .before .before .before .before .before .before in (
       omega (arith, start .pre .2),
       omega (arith, start .pre .1, start .pre .2, opened .kept .1 .0),
-      written-within _ (start .args .space .now) (start .pre .1) (opened .result) _ (opened .kept .1 .0) (opened .ensures .answers),
+      written-within _ (start .args .space .now) (start .pre .1) (opened .result) _ (opened .kept .1 .0) (opened .ensures .writes .answers),
     )
 
 same-length : tie.Need-same-length
@@ -35,7 +35,7 @@ returns c =
     let opened = wrote .before .before .before .before .before in
     let read = opened .before .before .before .before .before in
     let start = read .before .before .before .before .before .before in
-    rw (opened-answer (start .args .space .now) (read .read-words .ensures) (start .pre .1) (opened .opening .ensures .answers)) at (wrote .write-answer .ensures)
+    rw (opened-answer (start .args .space .now) (read .read-words .ensures) (start .pre .1) (opened .opening .ensures .writes .answers)) at (wrote .write-answer .ensures)
 
 pub write-opening-spec : {M : Type 1} → statement M
 write-opening-spec =
