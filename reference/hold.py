@@ -101,7 +101,9 @@ def scratch_crate(folder, rows):
     shutil.copytree(os.path.join(PROJECT, "crates", "rules"), os.path.join(folder, "crates", "rules"),
                     ignore=shutil.ignore_patterns("must-fail"))
     crate = os.path.join(folder, "crates", "vectors")
-    files = {os.path.join(folder, "crates.txt"): "rules:\nvectors: rules\n",
+    with open(os.path.join(PROJECT, "crates.txt")) as file:
+        rules = next(line for line in file if line.startswith("rules:"))
+    files = {os.path.join(folder, "crates.txt"): rules + "vectors: rules\n",
              os.path.join(crate, "src", "lib.rt"): "// Nothing runs here: the proofs hold the answers against the rules.\n",
              os.path.join(crate, "specs", "Lib.antt"): "-- nothing\n"}
     chunks = [rows[at:at + CALLS_A_FILE] for at in range(0, len(rows), CALLS_A_FILE)]
