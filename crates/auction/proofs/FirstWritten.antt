@@ -13,7 +13,6 @@ use Rattle.laws.proofs.Bounds.{FitsWords}
 use Rattle.laws.proofs.ReadBack.{read-back}
 use Rattle.laws.proofs.RoundHolds.{round-holds}
 use Rattle.laws.proofs.Run.{startAt, round-long, fills-count, number-fits}
-use Rattle.rounds.proofs.OneRound.{of-orders}
 use Rattle.rounds.specs.Rounds.{handedBack, withPlaces, ofOrders}
 use Rattle.rounds.specs.declared.Round as declared
 use Rattle.rules.specs.Answers.{gives, refuses, row, refused, firstWords}
@@ -28,9 +27,10 @@ use Rattle.rules.specs.declared.Heading.{Heading}
 use Rattle.rules.specs.declared.Order.{Order}
 use Rattle.rules.specs.declared.Pieces.{Pieces}
 use Rattle.rules.specs.declared.Refusal.{Refusal}
-use Rattle.run.proofs.Accepted.{own-row, orders-are, count-is, sound}
-use Rattle.run.proofs.Places.{remaining-first}
+use Rattle.run.proofs.Accepted.{own-row, count-is, sound}
+use Rattle.run.proofs.Running.{running-none, round-is}
 use Rattle.run.specs.Accepted.{AcceptedAs, OfSheet}
+use Rattle.run.specs.Starts.{startOf}
 use Rattle.sheet.specs.Reading.{ReadsAs}
 use Rattle.sheet.specs.declared.Reading.{Reading}
 use Rattle.auction.proofs.FirstRound.{refused-sheet, not-accepted}
@@ -60,15 +60,12 @@ module _ {ws : List ℕ} {h : Heading} {orders : List Order} (a : AcceptedAs ws 
   unfolding startAt
   first-fits = number-fits ws (sound a) 0
 
-  module _ {quantities : List Pieces} (e : quantities ≡ map (λ (o : Order). o .quantity) orders) (r : declared.Round)
-      (given : handedBack r ≡ withPlaces (roundOver h (h .last .0) (standing h (filedIn h orders) (remainingIn h quantities)))) where
-    -- what the round hands back is the rules' first round
-    handed-first : handedBack r ≡ withPlaces (firstOf ws)
-    unfolding roundOf firstStart
-    handed-first = rw (e, remaining-first h orders, orders-are a, a .headed) at given
-
-    pub first-is : ofOrders (h .count) r ≡ firstOf ws
-    first-is = of-orders (h .count) (firstOf ws) r (fills-first ∙ sym (count-is a)) handed-first
+  -- what the round hands back is the rules' first round
+  pub first-is : {quantities : List Pieces} → quantities ≡ map (λ (o : Order). o .quantity) orders → (r : declared.Round)
+      → handedBack r ≡ withPlaces (roundOver h (h .last .0) (standing h (filedIn h orders) (remainingIn h quantities)))
+      → ofOrders (h .count) r ≡ firstOf ws
+  unfolding startOf startAt
+  first-is e r given = round-is a (running-none a []) r (rw e at given)
 
   -- the answer where the sheet is accepted
   round-answer : (space : ℕ)

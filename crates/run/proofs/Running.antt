@@ -134,17 +134,22 @@ module _ {ws : List ℕ} {h : Heading} {orders : List Order} (a : AcceptedAs ws 
       unfolding goesOn
       on-or-not e = rw (← round-is, ← a .headed) e
 
+      -- what the round leaves is the rules' next start
+      next-start : startIn h (startAfter start r) ≡ after (startAt ws k) (roundNumber ws k)
+      next-start =
+          let few : h .count ≤ 120 = omega (arith, sound a .heading .count, count-is a) in
+          let long : length (startIn h start .remaining) ≡ h .count = rw (v .starts) (start-long ws k ∙ sym (count-is a)) in
+          start-after h start r few long ∙ rw (v .starts, round-is)
+
       -- after a round that goes on
       pub running-on : goesOn h (handedBack r) ≡ true → {after : List ℕ}
           → after ≡ roundsWords (listed (roundNumber ws) (suc k)) ++ drop (at + roundSpace (h .count)) before
           → Running ws h before after (startAfter start r) (at + roundSpace (h .count)) (k + 1)
       unfolding startAt
       running-on on holds =
-          let few : h .count ≤ 120 = omega (arith, sound a .heading .count, count-is a) in
-          let long : length (startIn h start .remaining) ≡ h .count = rw (v .starts) (start-long ws k ∙ sym (count-is a)) in
           rw (add-one k)
           (record {
-            starts = start-after h start r few long ∙ rw (v .starts, round-is);
+            starts = next-start;
             goes = goes-further ws k (v .goes) (on-or-not on);
             place = place-next;
             holds = holds;
@@ -153,9 +158,7 @@ module _ {ws : List ℕ} {h : Heading} {orders : List Order} (a : AcceptedAs ws 
       -- and fewer orders have pieces left
       pub fewer-left : goesOn h (handedBack r) ≡ true → live (startIn h (startAfter start r)) < live (startIn h start)
       fewer-left on =
-          let few : h .count ≤ 120 = omega (arith, sound a .heading .count, count-is a) in
-          let long : length (startIn h start .remaining) ≡ h .count = rw (v .starts) (start-long ws k ∙ sym (count-is a)) in
-          rw (start-after h start r few long, v .starts, round-is)
+          rw (next-start, v .starts)
           (leaves-fewer ws band (startAt ws k) (start-long ws k ∙ sym (count-orders ws)) (on-or-not on))
 
       -- after the last round, with its ending and the number of rounds behind it
