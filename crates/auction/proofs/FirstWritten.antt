@@ -3,12 +3,12 @@
 use mathlib.Core.Bool.{cond}
 use mathlib.Core.List.{List, [], _++_, map}
 use mathlib.Core.Path.{_≡_, sym, _∙_}
-use Prim.Native.Nat.{ℕ, _+_, _-_, _≤_, _<_}
+use Prim.Native.Nat.{ℕ, _-_, _≤_, _<_}
 use native.Mathlib.Omega.{arith}
 use lib.Dec.{ltb}
 use lib.ListN.{length, take, drop, length-take}
 use borrow.Author.Tests.{lt-ltb, le-ltb}
-use Rattle.curves.specs.Limits.{filedIn, remainingIn}
+use Rattle.book.specs.Filed.{filedIn, remainingIn}
 use Rattle.laws.proofs.Bounds.{FitsWords}
 use Rattle.laws.proofs.ReadBack.{read-back}
 use Rattle.laws.proofs.RoundHolds.{round-holds}

@@ -3,13 +3,18 @@
 ghost use mathlib.Core.List.{List};
 ghost use mathlib.Core.Path.{_≡_};
 ghost use Prim.Native.Nat.{ℕ, _≤_};
+ghost use lib.ListN.{length, take};
+ghost use Rattle.lines.specs.Lines.{LineOf};
 ghost use Rattle.rules.specs.Answers.{priceAnswer, curvesAnswer, spaceAnswer};
 ghost use Rattle.rules.specs.Calls.{answer, stepperLimit, curvesAt, firstStanding, FirstRound};
-ghost use Rattle.curves.specs.Limits.{inPlaces};
 ghost use Rattle.run.specs.Accepted.{AcceptedAs, OfSheet};
+use book::entering::book_of;
+use book::force::line_in_force;
 use compare::smaller;
-use curves::limits::limits_in_force;
-use curves::pieces::pieces_at;
+use lines::keys::place_of;
+use lines::keys::price_at;
+use lines::line::pieces_at;
+use lines::line::place_of_order;
 use rounds::round_of;
 use rounds::words::write_round;
 use rules::CurvesAnswer;
@@ -20,16 +25,29 @@ use rules::PriceAnswer;
 use rules::Refusal;
 use rules::Side;
 use rules::SpaceAnswer;
-use rules::Standing;
 use rules::Terms;
 use rules::on_grid;
 use run::start::quantities;
 
-// The orders of the first round at their limits in force.
-fn standing_first(heading: Heading, orders: [Order; 120]) -> [Standing; 120]
-    ensures { λ r. ⌜ ((ws : List ℕ) → AcceptedAs ws heading orders → r ≡ inPlaces (firstStanding ws)) ⌝ }
+// Makes the line of a side in the first round, which starts from the quantities, and says how many orders it has.
+fn first_line(heading: Heading, orders: [Order; 120], side: Side, line: &mut [u64]) -> usize
+    requires { ⌜ length (now line) ≡ 120 ⌝ }
+    ensures { λ r. ⌜ (r ≤ 120) × (length (now (line .exit)) ≡ 120) × ((ws : List ℕ) → AcceptedAs ws heading orders → LineOf side (firstStanding ws) (take r (now (line .exit)))) ⌝ }
 {
-    limits_in_force(heading, orders, quantities(orders))
+    let book = book_of(heading, orders);
+    let remaining = quantities(orders);
+    match side {
+        Side::Buy => {
+            let buys = book.buys;
+            let bids = book.bids;
+            line_in_force(heading, Side::Buy, &bids[..buys], remaining, line)
+        }
+        Side::Sell => {
+            let sells = book.sells;
+            let asks = book.asks;
+            line_in_force(heading, Side::Sell, &asks[..sells], remaining, line)
+        }
+    }
 }
 
 // The limit in force of the order of a number, where it is a Stepper.
@@ -52,10 +70,11 @@ pub(crate) fn limit_in_first(heading: Heading, orders: [Order; 120], order: usiz
             limit: _,
             ignored: _,
         } => {
-            let standing = standing_first(heading, orders);
-            let own = standing[order];
-            let limit = own.limit;
-            PriceAnswer::At(limit)
+            let side = found.side;
+            let mut line = [0; 120];
+            let count = first_line(heading, orders, side, &mut line);
+            let place = place_of_order(&line[..count], order);
+            PriceAnswer::At(price_at(side, place))
         }
     }
 }
@@ -67,9 +86,12 @@ pub(crate) fn curves_in_first(heading: Heading, orders: [Order; 120], price: u32
     if !on_grid(price) {
         return CurvesAnswer::Refused(Refusal::Argument);
     }
-    let standing = standing_first(heading, orders);
-    let demand = pieces_at(Side::Buy, standing, heading.count, Price(price));
-    let supply = pieces_at(Side::Sell, standing, heading.count, Price(price));
+    let mut buys = [0; 120];
+    let mut sells = [0; 120];
+    let buyers = first_line(heading, orders, Side::Buy, &mut buys);
+    let sellers = first_line(heading, orders, Side::Sell, &mut sells);
+    let demand = pieces_at(&buys[..buyers], place_of(Side::Buy, Price(price)));
+    let supply = pieces_at(&sells[..sellers], place_of(Side::Sell, Price(price)));
     CurvesAnswer::At {
         demand,
         supply,
@@ -92,7 +114,18 @@ pub(crate) fn round_in_first(
         return SpaceAnswer::Refused(Refusal::Space);
     }
     let last = heading.last;
-    let round = round_of(heading, last, orders, quantities(orders));
+    let book = book_of(heading, orders);
+    let buys = book.buys;
+    let bids = book.bids;
+    let sells = book.sells;
+    let asks = book.asks;
+    let round = round_of(
+        heading,
+        last,
+        quantities(orders),
+        &bids[..buys],
+        &asks[..sells],
+    );
     write_round(&mut space[0..size], round, count);
     SpaceAnswer::Written(size)
 }

@@ -2,7 +2,7 @@
 ghost use mathlib.Core.Path.{_≡_};
 ghost use Prim.Native.Nat.{_≤_, max, min};
 ghost use Rattle.rules.specs.Grid.{movedInto};
-ghost use Rattle.rules.specs.Limits.{sameSide, allows};
+ghost use Rattle.rules.specs.Limits.{sameSide};
 use rules::Price;
 use rules::Side;
 use rules::Total;
@@ -67,15 +67,5 @@ pub fn same_side(side: Side, other: Side) -> bool
             Side::Buy => false,
             Side::Sell => true,
         },
-    }
-}
-
-// Whether a limit of a side allows a price.
-pub fn allows(side: Side, limit: Price, price: Price) -> bool
-    ensures { λ r. ⌜ r ≡ allows side (limit .0) (price .0) ⌝ }
-{
-    match side {
-        Side::Buy => price.0 <= limit.0,
-        Side::Sell => limit.0 <= price.0,
     }
 }

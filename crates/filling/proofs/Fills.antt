@@ -1,27 +1,35 @@
--- The fills in their places. A loop fills them from the front by each order's pieces and what is ahead of it, which is its share. For a
--- caller: the total is the largest one, and the pieces are the fills of the rules, followed by 0 where no order stands.
-use mathlib.Core.Bool.{Bool, true, false, cond}
+-- The fills in their places. Both sides have got their shares, and no order is of both, so all 120 places hold the fills of the rules; without
+-- a crossing nobody is eligible, and they hold nothing. For a caller: the total is the largest one, and the pieces are the fills of the
+-- rules, followed by 0 where no order stands.
+use mathlib.Core.Bool.{Bool, false, _&&_, and-false, false≢true}
 use mathlib.Core.List.{List, [], _∷_, _++_, map}
-use mathlib.Core.Path.{_≡_, refl, ap, _∙_}
-use Prim.Native.Nat.{ℕ, zero, suc, _+_, _-_, _≤_, _<_, min, zero-le}
+use mathlib.Core.Path.{_≡_, refl, sym, ap, _∙_}
+use Prim.Native.Nat.{ℕ, zero, suc, _+_, _-_, _≤_, _<_, min}
+use native.Mathlib.Decide.{decLe}
 use native.Mathlib.Omega.{arith}
+use lib.ListN.{length, getD, replicate, length-append, length-replicate}
+use lib.Seq.{getD-append-add, ext-getD}
+use borrow.Author.Tests.{ne-eqb}
 use borrow.Table.Elements.{map-app}
-use lib.ListN.{length, getD, take, set, replicate}
-use Rattle.laws.proofs.Orders.{left, side, el}
-use Rattle.laws.proofs.Priority.{side-same}
+use Rattle.laws.proofs.Handed.{share-out}
+use Rattle.laws.proofs.Orders.{side, el}
+use Rattle.laws.proofs.Sums.{sum-zero}
 use Rattle.laws.proofs.Totals.{fills-length}
-use Rattle.rules.proofs.Lists.{listed-same, map-listed, length-listed, filled, filled-none, filled-more}
+use Rattle.lines.specs.Pieces.{piecesOf}
+use Rattle.rules.proofs.Lists.{map-listed, length-listed, filled, filled-at}
+use Rattle.rules.proofs.Scan.{largest-le}
 use Rattle.rules.specs.AuctionPrice.{Auction}
-use Rattle.rules.specs.Fills.{ahead, share, largestTotal, fillsOf}
-use Rattle.rules.specs.Limits.{numbered}
-use Rattle.rules.specs.Lists.{listed}
+use Rattle.rules.specs.Fills.{eligible, offered, share, reaches, largestTotal, fillsOf}
+use Rattle.rules.specs.Limits.{sameSide}
+use Rattle.rules.specs.Lists.{listed, largestTo}
 use Rattle.rules.specs.Sheet.{mostOrders}
 use Rattle.rules.specs.declared.Heading.{Heading}
 use Rattle.rules.specs.declared.Pieces.{Pieces}
+use Rattle.rules.specs.declared.Side.{Side}
+use Rattle.rules.specs.declared.Side.the-variants.{Buy, Sell}
 use Rattle.rules.specs.declared.Standing.{Standing}
-use Rattle.filling.proofs.Places.{taken-at, taken-count}
 use Rattle.filling.specs.Fills.{pieces, inPlaces, filledWith}
-use Rattle.filling.specs.Steps.{Holds, offerOn}
+use Rattle.filling.specs.Handing.{HandedTo}
 use Rattle.filling.specs.declared.Filled.{Filled}
 
 -- ---- Lists of pieces
@@ -42,68 +50,84 @@ numbers-in-places fills =
     nothing zero = refl
     nothing (suc n) = ap (λ l. 0 ∷ l) (nothing n)
 
--- ---- The shares, handed out one after the other
+-- nothing is filled anywhere
+pub nothing-at : (n k : ℕ) → getD (replicate n (pieces 0)) k (pieces 0) ≡ pieces 0
+nothing-at zero k = refl
+nothing-at (suc n) zero = refl
+nothing-at (suc n) (suc k) = nothing-at n k
 
-module _ (h : Heading) (a : Auction) (orders : List Standing) (aheads : List ℕ) (total count : ℕ) where
-  abbrev os : List Standing
-  os = take count orders
+-- 120 places hold f's values where an order stands, and nothing elsewhere
+places-are : (f : ℕ → ℕ) (n : ℕ) (fills : List Pieces) → n ≤ mostOrders → length fills ≡ mostOrders
+    → ((k : ℕ) → k < n → piecesOf fills k ≡ f k) → ((k : ℕ) → n ≤ k → piecesOf fills k ≡ 0) → fills ≡ inPlaces (listed f n)
+unfolding inPlaces
+places-are f n fills few long here beyond =
+    rw (length-listed f n, map-listed pieces f n)
+    (ext-getD (pieces 0) fills (filled g (pieces 0) mostOrders n) (long ∙ sym size) (λ k l. at k (decLe (suc k) n)))
+  where
+    g : ℕ → Pieces
+    g k = pieces (f k)
 
-  -- what an order gets, by what it brings to its side and what is ahead of it
-  abbrev part : Standing → ℕ → ℕ
-  part o before = min (offerOn h a (o .side) o) (total - before)
+    size : length (filled g (pieces 0) mostOrders n) ≡ mostOrders
+    size = simp (length-append, length-listed, length-replicate) (omega arith)
 
-  abbrev partAt : ℕ → Pieces
-  partAt k = pieces (part (numbered os k) (getD aheads k 0))
-
-  -- the first i of n orders have got theirs
-  pub record HandedOut (n : ℕ) (fills : List Pieces) (i : ℕ) : Type 0 where
-    pub places : n ≡ min count mostOrders
-    pub few : i ≤ n
-    pub so-far : fills ≡ filled partAt (pieces 0) mostOrders i
-
-  pub handed-none : {n : ℕ} → n ≡ min count mostOrders → HandedOut n (replicate mostOrders (pieces 0)) 0
-  handed-none e = record { places = e; few = zero-le; so-far = filled-none partAt (pieces 0) mostOrders }
-
-  module _ {n i : ℕ} {fills : List Pieces} (so : HandedOut n fills i) where
-    pub handed-more : {x : Pieces} {m : ℕ} → i < n → m ≡ offerOn h a (numbered orders i .side) (numbered orders i)
-        → x .0 ≡ min m (total - getD aheads i 0) → HandedOut n (set fills i x) (i + 1)
-    handed-more {x} more e got =
-        let fits : i < mostOrders = omega (arith, so .places) in
-        let here : x ≡ partAt i = ap pieces (rw (taken-at orders count (so .places) i more, ← e) got) in
-        record {
-          places = so .places;
-          few = omega arith;
-          so-far = rw (so .so-far, here) (filled-more partAt (pieces 0) mostOrders i fits);
-        }
-
-    share-is : (k : ℕ) → getD aheads k 0 ≡ ahead h a os k → part (numbered os k) (getD aheads k 0) ≡ share h a os total k
-    unfolding share
-    share-is k e = rw (e, side-same (side os k)) (go (el h a os k))
-      where
-        go : (t : Bool) → min (cond t (left os k) 0) (total - ahead h a os k) ≡ cond t (min (left os k) (total - ahead h a os k)) 0
-        go true = refl
-        go false = omega arith
-
-    pub handed-all : length orders ≡ mostOrders → n ≤ i → Holds (ahead h a os) (length os) aheads
-        → fills ≡ inPlaces (listed (share h a os total) (length os))
-    unfolding inPlaces
-    handed-all full done held =
-        let last : i ≡ length os = omega (arith, so .few, taken-count orders count (so .places) full) in
-        so .so-far
-        ∙ rw (
-          last,
-          length-listed (share h a os total) (length os),
-          map-listed pieces (share h a os total) (length os),
-          listed-same partAt (λ k. pieces (share h a os total k)) (length os) (λ k l. ap pieces (share-is k (held k l))),
-        )
+    at : (k : ℕ) → Dec (suc k ≤ n) → getD fills k (pieces 0) ≡ getD (filled g (pieces 0) mostOrders n) k (pieces 0)
+    at k (yes l) = ap pieces (here k l) ∙ sym (filled-at g (pieces 0) mostOrders n k (pieces 0) l)
+    at k (no l) =
+        let e : k ≡ length (listed g n) + (k - n) = omega (arith, length-listed g n, l) in
+        ap pieces (beyond k (omega (arith, l)))
+        ∙ sym
+        (ap (λ j. getD (filled g (pieces 0) mostOrders n) j (pieces 0)) e
+        ∙ getD-append-add (listed g n) (replicate (mostOrders - n) (pieces 0)) (k - n) (pieces 0)
+        ∙ nothing-at (mostOrders - n) (k - n))
 
 -- ---- The fills of a round
 
-pub fills-made : (h : Heading) (a : Auction) (os : List Standing) {sum : ℕ} {fills : List Pieces} → sum ≡ largestTotal h a os
-    → fills ≡ inPlaces (listed (share h a os sum) (length os))
-    → record { total = record { 0 = sum }; fills = fills } ≡ filledWith h a os
-unfolding filledWith fillsOf
-fills-made h a os e f = rw (f, e)
+module _ (h : Heading) (a : Auction) (os : List Standing) (few : length os ≤ mostOrders) {sum : ℕ} (e : sum ≡ largestTotal h a os) where
+  fills-made : {fills : List Pieces} → length fills ≡ mostOrders → ((k : ℕ) → k < length os → piecesOf fills k ≡ share h a os sum k)
+      → ((k : ℕ) → length os ≤ k → piecesOf fills k ≡ 0) → record { total = record { 0 = sum }; fills = fills } ≡ filledWith h a os
+  unfolding filledWith fillsOf
+  fills-made {fills} long here beyond =
+      rw (places-are (share h a os sum) (length os) fills few long here beyond, e)
+
+  -- both sides have theirs
+  pub both-handed : {none bought fills : List Pieces} → ((k : ℕ) → piecesOf none k ≡ 0) → HandedTo h a os Buy sum none bought
+      → HandedTo h a os Sell sum bought fills → record { total = record { 0 = sum }; fills = fills } ≡ filledWith h a os
+  both-handed {none} {bought} {fills} empty buys sells =
+      fills-made (sells .long) (λ k l. got k l (side os k) refl)
+      (λ k far. sells .others k (λ l. absurd (omega arith)) ∙ buys .others k (λ l. absurd (omega arith)) ∙ empty k)
+    where
+      got : (k : ℕ) → k < length os → (s : Side) → side os k ≡ s → piecesOf fills k ≡ share h a os sum k
+      got k l Buy q =
+          sells .others k (λ m own. false≢true (ap (sameSide Sell) (sym q) ∙ own)) ∙ buys .shares k l (rw q) (empty k)
+      got k l Sell q =
+          sells .shares k l (rw q) (buys .others k (λ m own. false≢true (ap (sameSide Buy) (sym q) ∙ own)) ∙ empty k)
+
+-- without a crossing nobody is eligible
+module _ (h : Heading) (a : Auction) (os : List Standing) (apart : a .situation ≡ 0 → ⊥) where
+  nobody : (k : ℕ) → el h a os k ≡ false
+  unfolding eligible
+  nobody k = rw (ne-eqb (a .situation) 0 apart)
+
+  none-offered : (s : Side) → offered h a os s ≡ 0
+  unfolding offered
+  none-offered s = sum-zero _ (length os) (λ k l. rw (nobody k, and-false (sameSide s (side os k))))
+
+  none-reached : 0 ≡ largestTotal h a os
+  unfolding largestTotal
+  none-reached =
+      let most : largestTo both-reach (min (offered h a os Buy) (offered h a os Sell)) ≤ min (offered h a os Buy) (offered h a os Sell) =
+      largest-le both-reach (min (offered h a os Buy) (offered h a os Sell)) in
+      omega (arith, none-offered Buy)
+    where
+      both-reach : ℕ → Bool
+      both-reach t = reaches h a os Buy t && reaches h a os Sell t
+
+  pub none-filled : length os ≤ mostOrders
+      → record { total = record { 0 = 0 }; fills = replicate mostOrders (pieces 0) } ≡ filledWith h a os
+  none-filled few =
+      fills-made h a os few none-reached (length-replicate mostOrders (pieces 0))
+      (λ k l. ap (λ (m : Pieces). m .0) (nothing-at mostOrders k) ∙ sym (share-out h a os 0 k (nobody k)))
+      (λ k l. ap (λ (m : Pieces). m .0) (nothing-at mostOrders k))
 
 -- ---- For a caller
 

@@ -1,2 +1,4 @@
+pub mod Queues
+pub mod Reaching
+pub mod Handing
 pub mod Fills
-pub mod Steps

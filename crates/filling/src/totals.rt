@@ -1,65 +1,110 @@
 // The totals that a side can lawfully reach, and the largest that both can. An all-or-none order takes a
 // stretch of its side's totals, from the pieces ahead of it to its own on top of them: a total inside the
 // stretch would split it.
+ghost use mathlib.Core.Bool.{_&&_};
 ghost use mathlib.Core.List.{List};
 ghost use mathlib.Core.Path.{_≡_};
+ghost use Prim.Native.Nat.{_≤_};
+ghost use lib.Dec.{ltb};
+ghost use lib.ListN.{length};
+ghost use Rattle.lines.specs.Keys.{wholeIn};
+ghost use Rattle.lines.specs.Lines.{upTo};
 ghost use Rattle.rules.specs.AuctionPrice.{Auction};
 ghost use Rattle.rules.specs.Fills.{largestTotal};
 ghost use Rattle.rules.specs.declared.Heading.{Heading};
+ghost use Rattle.rules.specs.declared.Side.the-variants.{Buy, Sell};
 ghost use Rattle.rules.specs.declared.Standing.{Standing};
-ghost use Rattle.filling.specs.Steps.{splitsAt, LawfulFrom, BothSides};
-use compare::placed;
-use compare::wide;
+ghost use Rattle.filling.specs.Queues.{QueueOf};
+ghost use Rattle.filling.specs.Reaching.{ReachedFrom};
+use compare::smaller;
+use lines::keys::amount_in;
+use lines::keys::whole_in;
+use rules::Total;
 
-// Whether a total falls inside the stretch of an order.
-fn splits(ahead: u64, pieces: u32, total: u64) -> bool
-    ensures { λ r. ⌜ r ≡ splitsAt ahead pieces total ⌝ }
-{
-    if ahead < total {
-        total - ahead < wide(pieces)
-    } else {
-        false
-    }
+// A total that a side can lawfully reach, how many orders of its queue may get pieces of it, and the pieces of
+// these.
+pub(crate) struct Reached {
+    pub total: u64,
+    pub orders: usize,
+    pub sum: u64,
 }
 
-// The largest total at or below one that a side can lawfully reach: the total itself, or what is ahead of
-// the all-or-none order that it would split.
-fn lawful_from(count: usize, aheads: &[u64; 120], wholes: &[u32; 120], total: u64) -> u64
-    ensures { λ r. ⌜ LawfulFrom count (now (aheads .entry)) (now (wholes .entry)) total r ⌝ }
+// The pieces of a queue.
+fn sum_of(queue: &[u64]) -> u64
+    requires { ⌜ length (now queue) ≤ 120 ⌝ }
+    ensures { λ r. ⌜ r ≡ upTo (now (queue .entry)) (length (now (queue .entry))) ⌝ }
 {
-    let n = placed(count);
+    let mut sum: u64 = 0;
     let mut i: usize = 0;
-    while i < n {
-        let ahead = aheads[i];
-        if splits(ahead, wholes[i], total) {
-            return ahead;
-        }
+    while i < queue.len() {
+        sum += amount_in(queue[i]);
         i += 1;
     }
-    total
+    sum
 }
 
-// The largest total that both sides can lawfully reach, from the smaller of what they offer. The outer
-// loop steps down the lawful buy totals, the inner one the lawful sell totals.
-pub(crate) fn common_total(
-    count: usize,
-    aheads: &[u64; 120],
-    bids: &[u32; 120],
-    asks: &[u32; 120],
-    most: u64,
-) -> u64
-    ensures { λ r. ⌜ ((h : Heading) (a : Auction) (os : List Standing) → BothSides h a os count (now (aheads .entry)) (now (bids .entry)) (now (asks .entry)) most → r ≡ largestTotal h a os) ⌝ }
+// Whether a total would split an order, where so many pieces stand up to it and the total is above those
+// ahead of it.
+fn splits(entry: u64, upto: u64, total: u64) -> bool
+    ensures { λ r. ⌜ r ≡ (wholeIn entry && ltb total upto) ⌝ }
 {
-    let mut buy = lawful_from(count, aheads, bids, most);
-    let mut sell = lawful_from(count, aheads, asks, most);
+    whole_in(entry) & (total < upto)
+}
+
+// The largest total at or below one that a side can lawfully reach, going down from the last order that may
+// get pieces of it.
+fn reached_from(queue: &[u64], orders: usize, sum: u64, total: u64) -> Reached
+    requires { ⌜ (orders ≤ length (now queue)) × (sum ≡ upTo (now queue) orders) ⌝ }
+    ensures { λ r. ⌜ ReachedFrom (now (queue .entry)) orders total r ⌝ }
+{
+    let mut i = orders;
+    let mut upto = sum;
+    while 0 < i {
+        let entry = queue[i - 1];
+        let before = upto - amount_in(entry);
+        if before < total {
+            if splits(entry, upto, total) {
+                return Reached {
+                    total: before,
+                    orders: i - 1,
+                    sum: before,
+                };
+            }
+            return Reached {
+                total,
+                orders: i,
+                sum: upto,
+            };
+        }
+        upto = before;
+        i -= 1;
+    }
+    Reached {
+        total,
+        orders: 0,
+        sum: upto,
+    }
+}
+
+// The largest total that both sides can lawfully reach. The outer loop steps down the lawful buy totals, the
+// inner one the lawful sell totals.
+pub(crate) fn common_total(bids: &[u64], asks: &[u64]) -> u64
+    requires { ⌜ (length (now bids) ≤ 120) × (length (now asks) ≤ 120) ⌝ }
+    ensures { λ r. ⌜ ((h : Heading) (a : Auction) (os : List Standing) → QueueOf h a os Buy (now (bids .entry)) → QueueOf h a os Sell (now (asks .entry)) → r ≡ largestTotal h a os) ⌝ }
+{
+    let wanted = sum_of(bids);
+    let offered = sum_of(asks);
+    let most = smaller(Total(wanted), Total(offered)).0;
+    let mut buy = reached_from(bids, bids.len(), wanted, most);
+    let mut sell = reached_from(asks, asks.len(), offered, most);
     'walk: loop {
-        while buy <= sell {
-            if sell == buy {
+        while buy.total <= sell.total {
+            if sell.total == buy.total {
                 break 'walk;
             }
-            sell = lawful_from(count, aheads, asks, buy);
+            sell = reached_from(asks, sell.orders, sell.sum, buy.total);
         }
-        buy = lawful_from(count, aheads, bids, sell);
+        buy = reached_from(bids, buy.orders, buy.sum, sell.total);
     }
-    buy
+    buy.total
 }

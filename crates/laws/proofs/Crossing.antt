@@ -11,11 +11,6 @@ use native.Mathlib.Nat.{le-refl}
 use native.Mathlib.Omega.{arith}
 use lib.Dec.{leb, ltb, eqb}
 use borrow.Author.Tests.{leb-true, leb-false, le-leb, lt-leb, lt-ltb, le-ltb, eqb-true, eq-eqb}
-use Rattle.laws.proofs.Best.{place, nth-place, place-on}
-use Rattle.laws.proofs.Curves.{AtLeast, pieces-fall, levels}
-use Rattle.laws.proofs.Places.{same-test, same-leb}
-use Rattle.laws.proofs.Reach.{reach, reach-le, up-to-reach}
-use Rattle.laws.proofs.Spans.{Span, endFor, spanEnd, end-some, best-of-span, within-is, both-span, lowFor, highFor, allows-span}
 use Rattle.rules.proofs.Grid.{OnGrid, both}
 use Rattle.rules.proofs.Scan.{by-test, greatest-ge, greatest-le}
 use Rattle.rules.specs.AuctionPrice.{curve, inBand, Level, level, volume, orElse, found, highest, greatestVolume, maximiser, potential, crossed, uncrossed, auctionBy, auction}
@@ -26,6 +21,11 @@ use Rattle.rules.specs.declared.Heading.{Heading}
 use Rattle.rules.specs.declared.Side.{Side}
 use Rattle.rules.specs.declared.Side.the-variants.{Buy, Sell}
 use Rattle.rules.specs.declared.Standing.{Standing}
+use Rattle.laws.proofs.Best.{place, nth-place, place-on}
+use Rattle.laws.proofs.Curves.{places-fall, levels}
+use Rattle.laws.proofs.Places.{same-test, same-leb}
+use Rattle.laws.proofs.Reach.{reach, reach-le, up-to-reach}
+use Rattle.laws.proofs.Spans.{Span, endFor, spanEnd, end-some, best-of-span, within-is, both-span, lowFor, highFor, allows-span}
 
 -- ---- The auction from four prices
 
@@ -90,11 +90,7 @@ pieceLimit os s v = nth s (reach (λ k. curve s os (nth s k)) v)
 
 module _ (os : List Standing) where
   falls : (s : Side) (j k : ℕ) → j ≤ k → curve s os (nth s k) ≤ curve s os (nth s j)
-  falls s j k l = pieces-fall (λ i. true) s os (nth s j) (nth s k) (farther s)
-    where
-      farther : (s : Side) → AtLeast s (nth s k) (nth s j)
-      farther Buy = l
-      farther Sell = omega arith
+  falls s j k l = places-fall (λ i. true) s os j k l
 
   nearer : (s : Side) (k r : ℕ) → OnGrid k → r ≤ lastPrice → leb k r ≡ allows s (nth s r) (nth s k)
   nearer Buy k r on h = refl

@@ -13,7 +13,7 @@ use Rattle.rules.proofs.Grid.{OnGrid, both}
 use Rattle.rules.proofs.Scan.{greatest-ge}
 use Rattle.rules.proofs.Sums.{sum-le}
 use Rattle.rules.specs.AuctionPrice.{Level, level, volume, inBand, highest, found, greatestVolume, maximiser, potential}
-use Rattle.rules.specs.Grid.{lastPrice, Scan, overGrid}
+use Rattle.rules.specs.Grid.{lastPrice, nth, Scan, overGrid}
 use Rattle.rules.specs.Limits.{sameSide, numbered, allows, piecesAt}
 use Rattle.rules.specs.Sheet.{D, H}
 use Rattle.rules.specs.declared.Heading.{Heading}
@@ -45,6 +45,15 @@ pieces-fall counts s os p q h =
     part true true o false e = zero-le
     part true false o v e = zero-le
     part false u o v e = zero-le
+
+-- and so towards its better places
+pub places-fall : (counts : ℕ → Bool) (s : Side) (os : List Standing) (j k : ℕ) → j ≤ k
+    → piecesAt counts s os (nth s k) ≤ piecesAt counts s os (nth s j)
+places-fall counts s os j k l = pieces-fall counts s os (nth s j) (nth s k) (farther s)
+  where
+    farther : (s : Side) → AtLeast s (nth s k) (nth s j)
+    farther Buy = l
+    farther Sell = omega arith
 
 module _ (h : Heading) (os : List Standing) where
   -- the levels of the grid in a round

@@ -22,6 +22,15 @@ pub place-le : (s : Side) (limit : ℕ) → placeOf s limit ≤ lastPrice
 place-le Buy limit = omega arith
 place-le Sell limit = omega arith
 
+-- a price of the grid is the one at its place, which is on the grid too
+pub price-placed : (s : Side) (p : ℕ) → OnGrid p → nth s (placeOf s p) ≡ p
+price-placed Buy p on = omega arith
+price-placed Sell p on = omega arith
+
+pub placed-on : (s : Side) (p : ℕ) → OnGrid p → OnGrid (placeOf s p)
+placed-on Buy p on = (omega arith, omega arith)
+placed-on Sell p on = (omega arith, omega arith)
+
 -- two tests are one where each fact gives the other
 pub same-test : (t u : Bool) → (t ≡ true → u ≡ true) → (u ≡ true → t ≡ true) → t ≡ u
 same-test true u f g = sym (f refl)

@@ -1,19 +1,19 @@
 -- How far a side reaches: the place of its best price at which at least v pieces stand, and how to recognise it. F k is what stands
 -- at the k-th price from the side's worst one on.
 use mathlib.Core.Path.{_≡_}
-use Prim.Native.Nat.{ℕ, zero, suc, _-_, _≤_, _<_, zero-le}
+use Prim.Native.Nat.{ℕ, zero, suc, _≤_, _<_, zero-le}
 use native.Mathlib.Decide.{decLe}
 use native.Mathlib.Nat.{le-antisymm}
 use native.Mathlib.Omega.{arith}
 use lib.Dec.{leb}
 use borrow.Author.Tests.{leb-true, le-leb}
-use Rattle.laws.proofs.Places.{same-leb}
 use Rattle.rules.proofs.Ends.{priceAt, best-place}
 use Rattle.rules.proofs.Grid.{OnGrid}
 use Rattle.rules.proofs.Scan.{largest-le, largest-ge, largest-passes}
 use Rattle.rules.specs.Grid.{lastPrice, nth, overGrid}
 use Rattle.rules.specs.Lists.{largestTo}
 use Rattle.rules.specs.declared.Side.{Side}
+use Rattle.laws.proofs.Places.{same-leb}
 
 -- the last place at which at least v stand, 0 where there is none
 unfoldable pub reach : (ℕ → ℕ) → ℕ → ℕ
@@ -72,7 +72,3 @@ module _ (F : ℕ → ℕ) where
           go : Dec (suc k ≤ reach F v) → suc k ≤ reach F v
           go (yes l) = l
           go (no l) = absurd (omega (arith, stands (omega arith), beyond-reach v (suc k) most (omega (arith, l))))
-
--- no pieces at all stand everywhere
-pub reach-none : (F : ℕ → ℕ) → reach F 0 ≡ lastPrice
-reach-none F = reach-is F 0 lastPrice (omega arith) (λ h. zero-le) (λ j far most. absurd (omega arith))

@@ -1,2 +1,3 @@
 -- Laws of the steps to the auction price.
+pub mod Meeting
 pub mod Prices

@@ -2,114 +2,30 @@
 // v is the last price for the side at which at least v of its pieces stand, or the one beyond its worst
 // price where they stand nowhere. Four such limits give the auction: with V the greatest volume, the
 // maximisers run from the sells' limit of piece V to the buys', and demand exceeds supply there up to the
-// buys' limit of piece V + 1, supply demand from the sells' on.
-ghost use mathlib.Core.Bool.{true};
+// buys' limit of piece V + 1, supply demand from the sells' on. On a side's line they are the limits of the
+// orders that hold those pieces.
+mod meet;
+
 ghost use mathlib.Core.List.{List};
 ghost use mathlib.Core.Path.{_≡_};
-ghost use Prim.Native.Nat.{ℕ, _≤_};
-ghost use lib.Dec.{leb};
-ghost use lib.ListN.{take};
-ghost use Rattle.laws.proofs.Crossing.{pieceLimit, greatest, endWithin, balanced, crossedAt};
+ghost use Prim.Native.Nat.{_≤_};
+ghost use lib.ListN.{length};
+ghost use Rattle.laws.proofs.Crossing.{endWithin, balanced, crossedAt};
+ghost use Rattle.lines.specs.Lines.{LineOf};
 ghost use Rattle.rules.specs.AuctionPrice.{auctioned, uncrossed, auction};
-ghost use Rattle.rules.specs.Grid.{nth};
-ghost use Rattle.rules.specs.declared.Heading as heading;
 ghost use Rattle.rules.specs.declared.Side.the-variants.{Buy, Sell};
 ghost use Rattle.rules.specs.declared.Standing as standing;
-ghost use Rattle.curves.specs.Ladder.{sumBefore, RungsOf};
+use crate::meet::last_holder;
+use crate::meet::meet;
+use crate::meet::place_at;
 use compare::greater;
 use compare::lesser;
-use compare::smaller;
-use curves::ladder::PriceFound;
-use curves::ladder::best_price;
-use curves::ladder::ladder_of;
+use lines::keys::price_at;
 use rules::Auctioned;
 use rules::Heading;
 use rules::LAST_PRICE;
 use rules::Price;
 use rules::Side;
-use rules::Standing;
-use rules::Total;
-
-// The price beyond the worst of a side.
-fn beyond(side: Side) -> Price
-    ensures { λ r. ⌜ r .0 ≡ nth side 0 ⌝ }
-{
-    match side {
-        Side::Buy => Price(0),
-        Side::Sell => Price(LAST_PRICE + 1),
-    }
-}
-
-// The limit of a side's piece of a number, on the side's ladder.
-fn piece_limit(
-    side: Side,
-    count: usize,
-    places: &[u32; 120],
-    sums: &[u64; 120],
-    piece: Total,
-) -> Price
-    ensures { λ r. ⌜ ((os : List standing.Standing) → RungsOf side os count (now (places .entry)) (now (sums .entry)) → r .0 ≡ pieceLimit os side (piece .0)) ⌝ }
-{
-    let found = best_price(side, count, places, sums, piece);
-    match found {
-        PriceFound::At(price) => price,
-        PriceFound::Nowhere => beyond(side),
-    }
-}
-
-// Whether some price carries so many pieces: the limits of that piece cross.
-fn carried(
-    buys: usize,
-    bids: &[u32; 120],
-    demand: &[u64; 120],
-    sells: usize,
-    asks: &[u32; 120],
-    supply: &[u64; 120],
-    pieces: Total,
-) -> bool
-    ensures { λ r. ⌜ ((h : heading.Heading) (os : List standing.Standing) → RungsOf Buy os buys (now (bids .entry)) (now (demand .entry)) → RungsOf Sell os sells (now (asks .entry)) (now (supply .entry)) → r ≡ leb (pieces .0) (greatest h os)) ⌝ }
-{
-    let bid = piece_limit(Side::Buy, buys, bids, demand, pieces);
-    let ask = piece_limit(Side::Sell, sells, asks, supply, pieces);
-    ask.0 <= bid.0
-}
-
-// All pieces of a side that stand at some price of the grid: the sum of its last rung.
-fn whole_side(count: usize, sums: &[u64; 120]) -> Total
-    requires { ⌜ count ≤ 120 ⌝ }
-    ensures { λ r. ⌜ r .0 ≡ sumBefore (now (sums .entry)) count ⌝ }
-{
-    if count == 0 {
-        return Total(0);
-    }
-    Total(sums[count - 1])
-}
-
-// The greatest volume, by halving: no price carries more than a whole side.
-fn greatest_volume(
-    buys: usize,
-    bids: &[u32; 120],
-    demand: &[u64; 120],
-    sells: usize,
-    asks: &[u32; 120],
-    supply: &[u64; 120],
-) -> Total
-    requires { ⌜ (buys ≤ 120) × (sells ≤ 120) ⌝ }
-    ensures { λ r. ⌜ ((h : heading.Heading) (os : List standing.Standing) → RungsOf Buy os buys (now (bids .entry)) (now (demand .entry)) → RungsOf Sell os sells (now (asks .entry)) (now (supply .entry)) → r .0 ≡ greatest h os) ⌝ }
-{
-    let most = smaller(whole_side(buys, demand), whole_side(sells, supply));
-    let mut low: u64 = 0;
-    let mut high = most.0;
-    while low < high {
-        let middle = high - (high - low) / 2;
-        if carried(buys, bids, demand, sells, asks, supply, Total(middle)) {
-            low = middle;
-        } else {
-            high = middle - 1;
-        }
-    }
-    Total(low)
-}
 
 // The price from low to high nearest the last purchase price, between the ends l and r: demand exceeds
 // supply up to `bid`, supply demand from `ask` on.
@@ -167,29 +83,22 @@ fn uncrossed_price(heading: Heading, last: Price, bid: Price, ask: Price) -> Auc
     }
 }
 
-// The situation and the auction price of a round, from the band, the indicative price and the number of
-// orders of the heading, the last purchase price and the orders at their limits in force, the first of
-// 120 places.
-pub fn auction_price(heading: Heading, last: Price, orders: [Standing; 120]) -> Auctioned
-    ensures { λ r. ⌜ auctioned r ≡ auction heading (last .0) (take (heading .count) orders) ⌝ }
+// The situation and the auction price of a round, from the band and the indicative price of the heading, the
+// last purchase price and the lines of both sides at their limits in force.
+pub fn auction_price(heading: Heading, last: Price, bids: &[u64], asks: &[u64]) -> Auctioned
+    requires { ⌜ (length (now bids) ≤ 120) × (length (now asks) ≤ 120) ⌝ }
+    ensures { λ r. ⌜ ((os : List standing.Standing) → LineOf Buy os (now (bids .entry)) → LineOf Sell os (now (asks .entry)) → auctioned r ≡ auction heading (last .0) os) ⌝ }
 {
-    let demand = ladder_of(Side::Buy, orders, heading.count);
-    let supply = ladder_of(Side::Sell, orders, heading.count);
-    let buys = demand.count;
-    let bids = demand.places;
-    let bought = demand.sums;
-    let sells = supply.count;
-    let asks = supply.places;
-    let sold = supply.sums;
-    let volume = greatest_volume(buys, &bids, &bought, sells, &asks, &sold);
-    let more = Total(volume.0 + 1);
-    let bid = piece_limit(Side::Buy, buys, &bids, &bought, more);
-    let ask = piece_limit(Side::Sell, sells, &asks, &sold, more);
-    if volume.0 == 0 {
+    let met = meet(bids, asks);
+    let bid = price_at(Side::Buy, place_at(bids, met.buys));
+    let ask = price_at(Side::Sell, place_at(asks, met.sells));
+    if met.volume == 0 {
         return uncrossed_price(heading, last, bid, ask);
     }
-    let a = piece_limit(Side::Sell, sells, &asks, &sold, volume);
-    let b = piece_limit(Side::Buy, buys, &bids, &bought, volume);
+    let buyer = last_holder(met.bought, met.buys, met.volume);
+    let seller = last_holder(met.sold, met.sells, met.volume);
+    let a = price_at(Side::Sell, place_at(asks, seller));
+    let b = price_at(Side::Buy, place_at(bids, buyer));
     Auctioned {
         situation: 0,
         price: crossed_price(heading, last, a, b, bid, ask),

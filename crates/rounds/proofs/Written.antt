@@ -7,9 +7,10 @@ use native.Mathlib.Omega.{arith}
 use lib.ListN.{length, getD, set, take, drop, length-append, length-drop, drop-of-length-le}
 use lib.Seq.{set-at, drop-cons}
 use Rattle.laws.proofs.Bounds.{FitsWords}
+use Rattle.lines.specs.Pieces.{piecesOf}
 use Rattle.rules.proofs.Lists.{length-listed, getD-listed}
 use Rattle.rules.specs.Lists.{listed}
-use Rattle.rounds.specs.Rounds.{fillAt, ofOrders}
+use Rattle.rounds.specs.Rounds.{ofOrders}
 use Rattle.rounds.specs.declared.Round.{Round}
 
 -- ---- A slice written from the front
@@ -67,6 +68,6 @@ round-written xs a b c d {last} {fills} h e =
         rw (drop-of-length-le ys all) (ap (λ (zs : List ℕ). a ∷ b ∷ c ∷ d ∷ zs) (append-nil fills))
 
 -- where the round fits its words, each fill does
-pub fills-fit : (n : ℕ) (r : Round) → FitsWords (ofOrders n r) → (k : ℕ) → k < n → fillAt (r .fills) k < 0x1000_0000
+pub fills-fit : (n : ℕ) (r : Round) → FitsWords (ofOrders n r) → (k : ℕ) → k < n → piecesOf (r .fills) k < 0x1000_0000
 fills-fit n r fits k l =
-    rw (getD-listed (fillAt (r .fills)) n k 0 l) at (fits .fills k (rw (length-listed (fillAt (r .fills)) n) l))
+    rw (getD-listed (piecesOf (r .fills)) n k 0 l) at (fits .fills k (rw (length-listed (piecesOf (r .fills)) n) l))

@@ -1,15 +1,11 @@
 -- A round as the engine hands it back, and the rules' round that it stands for.
-use mathlib.Core.List.{List, map}
+use mathlib.Core.List.{map}
 use Prim.Native.Nat.{ℕ}
-use lib.ListN.{getD}
+use Rattle.lines.specs.Pieces.{piecesOf}
 use Rattle.rules.specs.Lists.{listed}
 use Rattle.rules.specs.Opening.{Round as RulesRound, fillPlaces}
 use Rattle.rules.specs.declared.Pieces.{Pieces}
 use Rattle.rounds.specs.declared.Round.{Round}
-
--- The pieces at fill place k.
-abbrev pub fillAt : List Pieces → ℕ → ℕ
-fillAt fills k = getD fills k (record { 0 = 0 }) .0
 
 -- The round with all its fill places.
 abbrev pub handedBack : Round → RulesRound
@@ -38,5 +34,5 @@ ofOrders n r = record {
   price = r .price .0;
   purchase = r .purchase .0;
   total = r .total .0;
-  fills = listed (fillAt (r .fills)) n;
+  fills = listed (piecesOf (r .fills)) n;
 }

@@ -1,22 +1,28 @@
 // Document 01, "Opening": a round of a sheet, from what remains of its orders, and the words of its result.
 pub mod words;
 
+ghost use mathlib.Core.List.{List};
 ghost use mathlib.Core.Path.{_≡_};
+ghost use Prim.Native.Nat.{_≤_};
+ghost use lib.ListN.{length};
+ghost use Rattle.book.specs.Book.{BookLine, Ranged};
+ghost use Rattle.book.specs.Filed.{remainingIn};
 ghost use Rattle.rules.specs.AuctionPrice.{auctioned};
 ghost use Rattle.rules.specs.Fills.{purchasePrice};
 ghost use Rattle.rules.specs.Limits.{standing};
 ghost use Rattle.rules.specs.Opening.{roundOver};
-ghost use Rattle.curves.specs.Limits.{filedIn, remainingIn};
+ghost use Rattle.rules.specs.declared.Order as order;
+ghost use Rattle.rules.specs.declared.Side.the-variants.{Buy, Sell};
 ghost use Rattle.rounds.specs.Rounds.{handedBack, withPlaces};
+use book::force::line_in_force;
 use compare::moved_into;
-use curves::limits::limits_in_force;
 use filling::fills_of;
 use pricing::auction_price;
 use rules::Auctioned;
 use rules::Heading;
-use rules::Order;
 use rules::Pieces;
 use rules::Price;
+use rules::Side;
 use rules::Total;
 
 // What a round gives, its fills in all 120 places.
@@ -43,19 +49,24 @@ fn purchase_price(heading: Heading, auction: Auctioned, total: Total) -> Price
     }
 }
 
-// A round, from the last purchase price, the orders of the sheet and what remains of each: the limits in
-// force, then the auction price, then the fills.
+// A round, from the last purchase price, what remains of each order and the lines of the sheet's book: the lines
+// in force, then the auction price, then the fills.
 pub fn round_of(
     heading: Heading,
     last: Price,
-    orders: [Order; 120],
     remaining: [Pieces; 120],
+    bids: &[u64],
+    asks: &[u64],
 ) -> Round
-    ensures { λ r. ⌜ handedBack r ≡ withPlaces (roundOver heading (last .0) (standing heading (filedIn heading orders) (remainingIn heading remaining))) ⌝ }
+    requires { ⌜ (length (now bids) ≤ 120) × (length (now asks) ≤ 120) ⌝ }
+    ensures { λ r. ⌜ ((orders : List order.Order) → BookLine heading orders Buy (now (bids .entry)) → BookLine heading orders Sell (now (asks .entry)) → Ranged heading orders remaining → handedBack r ≡ withPlaces (roundOver heading (last .0) (standing heading orders (remainingIn heading remaining)))) ⌝ }
 {
-    let standing = limits_in_force(heading, orders, remaining);
-    let auction = auction_price(heading, last, standing);
-    let filled = fills_of(heading, auction, standing);
+    let mut buys = [0; 120];
+    let mut sells = [0; 120];
+    let buyers = line_in_force(heading, Side::Buy, bids, remaining, &mut buys);
+    let sellers = line_in_force(heading, Side::Sell, asks, remaining, &mut sells);
+    let auction = auction_price(heading, last, &buys[..buyers], &sells[..sellers]);
+    let filled = fills_of(heading, auction, &mut buys[..buyers], &mut sells[..sellers]);
     let total = filled.total;
     let price = auction.price;
     let fills = filled.fills;

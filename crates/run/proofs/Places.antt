@@ -8,8 +8,9 @@ use native.Mathlib.Omega.{arith}
 use lib.Dec.{ltb}
 use lib.ListN.{length, getD, take, set, replicate, length-map, length-take, List·getD-map}
 use lib.Seq.{getD-take}
-use Rattle.curves.specs.Limits.{filedIn, remainingIn}
-use Rattle.rounds.specs.Rounds.{fillAt, ofOrders}
+use Rattle.book.specs.Filed.{filedIn, remainingIn}
+use Rattle.lines.specs.Pieces.{piecesOf}
+use Rattle.rounds.specs.Rounds.{ofOrders}
 use Rattle.rounds.specs.declared.Round as declared
 use Rattle.rules.proofs.Lists.{length-listed, getD-listed, listed-is, filled, filled-none, filled-more}
 use Rattle.rules.specs.Fills.{fillOf}
@@ -72,7 +73,7 @@ remaining-first h orders =
 
 -- ---- The remainders that a round leaves
 
-remaining-at : (h : Heading) (places : List Pieces) (k : ℕ) → k < h .count → getD (remainingIn h places) k 0 ≡ fillAt places k
+pub remaining-at : (h : Heading) (places : List Pieces) (k : ℕ) → k < h .count → getD (remainingIn h places) k 0 ≡ piecesOf places k
 unfolding remainingIn
 remaining-at h places k l =
     List·getD-map (λ (m : Pieces). m .0) (take (h .count) places) k none
@@ -80,7 +81,7 @@ remaining-at h places k l =
 
 -- what is left of order k, at its place
 abbrev leftOf : List Pieces → List Pieces → ℕ → Pieces
-leftOf remaining fills k = record { 0 = fillAt remaining k - fillAt fills k }
+leftOf remaining fills k = record { 0 = piecesOf remaining k - piecesOf fills k }
 
 less-long : (h : Heading) (remaining fills : List Pieces) → h .count ≤ mostOrders
     → length (remainingIn h (lessFills remaining fills)) ≡ h .count
@@ -91,13 +92,13 @@ less-long h remaining fills few =
     ∙ rw (length-listed (leftOf remaining fills) mostOrders) (omega arith)
 
 less-at : (h : Heading) (remaining fills : List Pieces) → h .count ≤ mostOrders → (k : ℕ) → k < h .count
-    → getD (remainingIn h remaining) k 0 - fillOf (listed (fillAt fills) (h .count)) k
+    → getD (remainingIn h remaining) k 0 - fillOf (listed (piecesOf fills) (h .count)) k
     ≡ getD (remainingIn h (lessFills remaining fills)) k 0
 unfolding lessFills
 less-at h remaining fills few k l =
-    let placed : fillAt (listed (leftOf remaining fills) mostOrders) k ≡ fillAt remaining k - fillAt fills k =
+    let placed : piecesOf (listed (leftOf remaining fills) mostOrders) k ≡ piecesOf remaining k - piecesOf fills k =
     ap (λ (m : Pieces). m .0) (getD-listed (leftOf remaining fills) mostOrders k none (omega arith)) in
-    rw (remaining-at h remaining k l, getD-listed (fillAt fills) (h .count) k 0 l)
+    rw (remaining-at h remaining k l, getD-listed (piecesOf fills) (h .count) k 0 l)
     (sym (remaining-at h (listed (leftOf remaining fills) mostOrders) k l ∙ placed))
 
 -- the rules' start that the engine's stands for

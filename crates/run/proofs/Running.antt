@@ -11,10 +11,12 @@ use native.Mathlib.Omega.{arith}
 use lib.Dec.{eqb}
 use lib.ListN.{length, getD, take, drop, set, length-append, length-drop}
 use lib.Seq.{take-at, drop-at, drop-drop, drop-cons, set-at}
-use Rattle.curves.specs.Limits.{filedIn, remainingIn}
+use Rattle.book.specs.Book.{BookOf, Ranged}
+use Rattle.book.specs.Filed.{filedIn, remainingIn}
+use Rattle.book.specs.declared.Book.{Book}
 use Rattle.laws.proofs.Bounds.{most-space, FitsWords}
 use Rattle.laws.proofs.Rounds.{live, leaves-fewer, count-orders}
-use Rattle.laws.proofs.Run.{startAt, roundNumber, GoesTo, goes-further, start-long, fills-count, few-rounds, words-more, words-count, opening-is, number-fits}
+use Rattle.laws.proofs.Run.{startAt, roundNumber, GoesTo, sound-start, goes-further, start-long, fills-count, few-rounds, words-more, words-count, opening-is, number-fits}
 use Rattle.rounds.proofs.OneRound.{of-orders}
 use Rattle.rounds.specs.Rounds.{handedBack, withPlaces, ofOrders}
 use Rattle.rounds.specs.declared.Round as declared
@@ -22,15 +24,15 @@ use Rattle.rules.proofs.Accepted.{sound-band}
 use Rattle.rules.proofs.Scan.{by-test}
 use Rattle.rules.specs.AuctionPrice.{inBand}
 use Rattle.rules.specs.Demand3.{count}
-use Rattle.rules.specs.Limits.{standing}
+use Rattle.rules.specs.Limits.{noOrder, filed, standing}
 use Rattle.rules.specs.Lists.{listed}
-use Rattle.rules.specs.Opening.{Round, roundOver, roundOf, firstStart, after, goesOn, endingAfter, roundWords, roundsWords, openingWords, roundSpace, openingSpace}
-use Rattle.rules.specs.Sheet.{D, H, headingOf}
+use Rattle.rules.specs.Opening.{Round, Start as RulesStart, roundOver, roundOf, firstStart, after, goesOn, endingAfter, roundWords, roundsWords, openingWords, roundSpace, openingSpace}
+use Rattle.rules.specs.Sheet.{D, H, headingOf, ordersOf}
 use Rattle.rules.specs.Words.{word}
 use Rattle.rules.specs.declared.Heading.{Heading}
 use Rattle.rules.specs.declared.Order.{Order}
-use Rattle.run.proofs.Accepted.{orders-are, count-is, sound}
-use Rattle.run.proofs.Places.{remaining-first, startIn, start-after}
+use Rattle.run.proofs.Accepted.{orders-are, count-is, sound, sheet-ranged}
+use Rattle.run.proofs.Places.{remaining-first, remaining-at, startIn, start-after}
 use Rattle.run.specs.Accepted.{AcceptedAs}
 use Rattle.run.specs.Starts.{startOf, startAfter, Ran}
 use Rattle.run.specs.declared.start.Start.{Start}
@@ -45,6 +47,12 @@ ending-small h r =
 -- the value of the last word fits its bits
 pub last-fits : (h : Heading) (r : Round) {ending k : ℕ} → ending ≡ endingAfter h r → k ≤ 120 → ending * 65536 + (k + 1) ≤ 131193
 last-fits h r e few = omega (arith, ending-small h r)
+
+-- the sheet ws is accepted with this heading and these orders, and this is what its opening starts from: first remainders and book
+pub record Opens (ws : List ℕ) (h : Heading) (orders : List Order) (start : Start) (b : Book) : Type 0 where
+  pub accepted : AcceptedAs ws h orders
+  pub starts : start ≡ startOf h orders
+  pub book : BookOf h (filedIn h orders) b
 
 -- round k is to be run, and its words go to the place at
 pub record Running (ws : List ℕ) (h : Heading) (before space : List ℕ) (start : Start) (at k : ℕ) : Type 0 where
@@ -97,6 +105,19 @@ module _ {ws : List ℕ} {h : Heading} {orders : List Order} (a : AcceptedAs ws 
     space-long low = ap length (v .holds) ∙ rw (length-append, length-drop, words-long) (omega arith)
 
     -- ---- The round
+
+    -- what remains is no more than the quantities
+    pub round-ranged : Ranged h (filedIn h orders) (start .remaining)
+    unfolding startIn
+    round-ranged =
+        sheet-ranged a (start .remaining)
+        (λ j l.
+        let own : j < count ws = omega (arith, ap length (orders-are a), count-orders ws) in
+        let most = sound a .orders j noOrder own .most in
+        let left : getD (startAt ws k .remaining) j 0 ≤ filed (ordersOf ws) j .quantity .0 = sound-start ws (sound a) k .pieces j own in
+        let same : getD (remainingIn h (start .remaining)) j 0 ≡ getD (startAt ws k .remaining) j 0 =
+        ap (λ (s : RulesStart). getD (s .remaining) j 0) (v .starts) in
+        omega (arith, remaining-at h (start .remaining) j (omega (arith, count-is a))))
 
     module _ (r : declared.Round)
         (given : handedBack r ≡ withPlaces (roundOver h (start .last .0) (standing h (filedIn h orders) (remainingIn h (start .remaining))))) where

@@ -5,7 +5,7 @@ use mathlib.Core.Path.{_≡_}
 use Prim.Native.Nat.{ℕ, _-_}
 use lib.Dec.{ltb}
 use lib.ListN.{length, drop}
-use Rattle.rounds.specs.Rounds.{fillAt}
+use Rattle.lines.specs.Pieces.{piecesOf}
 use Rattle.rounds.specs.declared.Round.{Round}
 use Rattle.rules.specs.Lists.{listed}
 use Rattle.rules.specs.Opening.{openingWords}
@@ -21,7 +21,7 @@ startOf heading orders = record { last = heading .last; remaining = map (λ (o :
 
 -- A round's fills come off the remainders, in all places.
 unfoldable pub lessFills : List Pieces → List Pieces → List Pieces
-lessFills remaining fills = listed (λ k. record { 0 = fillAt remaining k - fillAt fills k }) mostOrders
+lessFills remaining fills = listed (λ k. record { 0 = piecesOf remaining k - piecesOf fills k }) mostOrders
 
 -- A purchase price above 0 becomes the last purchase price.
 unfoldable pub startAfter : Start → Round → Start

@@ -8,6 +8,7 @@ ghost use lib.ListN.{length};
 ghost use Rattle.rules.specs.Opening.{openingSpace};
 ghost use Rattle.run.specs.Accepted.{AcceptedAs, OfSheet};
 ghost use Rattle.run.specs.Starts.{Ran};
+use book::entering::book_of;
 use ending::ending_after;
 use ending::goes_on;
 use rounds::round_of;
@@ -18,21 +19,26 @@ use rules::Order;
 use start::after;
 use start::first_start;
 
-// Runs the rounds of an opening, each written into its own stretch of the space, and writes the last word
-// behind them. Hands back how many words were written.
+// Runs the rounds of an opening by the sheet's book, each written into its own stretch of the space, and writes
+// the last word behind them. Hands back how many words were written.
 pub fn run_rounds(heading: Heading, orders: [Order; 120], space: &mut [u32]) -> usize
     requires { ⌜ OfSheet heading orders × (openingSpace (heading .count) ≤ length (now space)) ⌝ }
     ensures { λ r. ⌜ ((ws : List ℕ) → AcceptedAs ws heading orders → Ran ws (now (space .entry)) (now (space .exit)) r) ⌝ }
 {
     let count = heading.count;
     let size = 4 + count;
+    let book = book_of(heading, orders);
+    let buys = book.buys;
+    let bids = book.bids;
+    let sells = book.sells;
+    let asks = book.asks;
     let mut start = first_start(heading, orders);
     let mut at: usize = 0;
     let mut rounds: u32 = 0;
     loop {
         let last = start.last;
         let remaining = start.remaining;
-        let round = round_of(heading, last, orders, remaining);
+        let round = round_of(heading, last, remaining, &bids[..buys], &asks[..sells]);
         let end = at + size;
         write_round(&mut space[at..end], round, count);
         at = end;

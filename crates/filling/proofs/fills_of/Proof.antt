@@ -1,82 +1,84 @@
--- `fills_of` meets its contract: the arrays lay the round out by rank, the walk along their stretches finds the total, and it is handed
--- out by what is ahead of each order.
-use mathlib.Core.Path.{_≡_, refl}
-use Prim.Native.Nat.{min}
-use lib.ListN.{length, take}
-use Rattle.rules.specs.AuctionPrice.{auctioned}
-use Rattle.filling.proofs.Fills.{fills-made}
-use Rattle.filling.proofs.Places.{taken-count}
-use Rattle.filling.proofs.ByRank.{queues-laid-out, sides-laid-out}
+-- `fills_of` meets its contract: without a crossing nobody is eligible; else both lines become the queues of their sides, and the fills
+-- are by them.
+use native.Mathlib.Omega.{arith}
+use lib.ListN.{length-take}
 use borrow.Author.Needs.{needs}
+use Rattle.rules.specs.AuctionPrice.{auctioned}
+use Rattle.filling.proofs.Fills.{none-filled}
 use Rattle.filling.proofs.fills_of.Statement.{statement}
 use Rattle.filling.proofs.fills_of.Tie as tie
 
-long : (c : tie.Start) → length (c .args .orders) ≡ 120
-long c = search needs
-
-ranks-of-requires : tie.Need-ranks-of-requires
-ranks-of-requires c κs = search needs
-
-offers-of-requires : tie.Need-offers-of-requires
-offers-of-requires c κs = search needs
-
-offers-of-requires-2 : tie.Need-offers-of-requires-2
-offers-of-requires-2 c κs = search needs
-
-aheads-of-requires : tie.Need-aheads-of-requires
-aheads-of-requires c κs = search needs
-
-most-total-requires : tie.Need-most-total-requires
-most-total-requires c κs = search needs
-
-wholes-of-requires : tie.Need-wholes-of-requires
-wholes-of-requires c κs = search needs
-
-wholes-of-requires-2 : tie.Need-wholes-of-requires-2
-wholes-of-requires-2 c κs = search needs
-
-common-total-requires : tie.Need-common-total-requires
-common-total-requires c κs = search needs
-
-handed-out-requires : tie.Need-handed-out-requires
-handed-out-requires c κs = search needs
-
 returns : tie.Need-returns
 returns c =
-    let walked = c .before .before in
-    let sold = walked .before .before .before .before in
-    let bought = sold .before .before in
-    let most = bought .before .before in
-    let ahead = most .before .before .before in
-    let asked = ahead .before .before .before .before in
-    let bid = asked .before in
-    let ranked = bid .before in
-    let a = ranked .before .args in
-    let h = a .heading in
-    let x = auctioned (a .auction) in
-    let os = take (h .count) (a .orders) in
-    let all : length os ≡ min (h .count) 120 = taken-count (a .orders) (h .count) refl (long (ranked .before)) in
-    let queues =
-    queues-laid-out h x os (ranked .ranks-of .result) (bid .offers-of .result) (asked .offers-of2 .result)
-    (ranked .ranks-of .ensures) (bid .offers-of .ensures) (asked .offers-of2 .ensures) in
-    let held = ahead .aheads-of .ensures h x queues in
-    let sides =
-    sides-laid-out queues (h .count) (most .most-total .result) (ahead .aheads-of .result)
-    (bought .wholes-of .result) (sold .wholes-of2 .result) all held (most .most-total .ensures h x os all (queues .brought))
-    (bought .wholes-of .ensures) (sold .wholes-of2 .ensures) in
-    fills-made h x os (walked .common-total .ensures h x os sides) (c .handed-out .ensures held)
+    let a = c .before .before .before .before .args in
+    λ os b buys sells. none-filled (a .heading) (auctioned (a .auction)) os (c .if1 .taken) (buys .few)
+
+moved-into-requires : tie.Need-moved-into-requires
+moved-into-requires c κs = search needs
+
+queue-of-requires : tie.Need-queue-of-requires
+queue-of-requires c κs = search needs
+
+queue-of-requires-2 : tie.Need-queue-of-requires-2
+queue-of-requires-2 c κs = search needs
+
+slice-reshare-prefix-fills-from : tie.Need-slice-reshare-prefix-fills-from
+slice-reshare-prefix-fills-from c = search needs
+
+slice-aggregate-fills-from : tie.Need-slice-aggregate-fills-from
+slice-aggregate-fills-from c =
+    let q = c .before .before .before .before .before .before .before .queue-of .ensures in
+    simp length-take (omega (arith, q .long, q .within))
+
+slice-reshare-prefix-fills-from-2 : tie.Need-slice-reshare-prefix-fills-from-2
+slice-reshare-prefix-fills-from-2 c = search needs
+
+slice-aggregate-fills-from-2 : tie.Need-slice-aggregate-fills-from-2
+slice-aggregate-fills-from-2 c =
+    let q = c .before .before .before .before .queue-of2 .ensures in
+    simp length-take (omega (arith, q .long, q .within))
+
+fills-from-requires : tie.Need-fills-from-requires
+fills-from-requires c κs =
+    let sold = c .before .before .before .before in
+    let bought = sold .before .before .before .before in
+    let start = bought .before .before .before .before .before .before .before .before .before .before in
+    let s = sold .queue-of2 .ensures in
+    let b = bought .queue-of .ensures in
+    simp length-take (omega (arith, s .long, s .within, b .long, b .within, start .pre))
+
+same-length : tie.Need-same-length
+same-length c = search needs
+
+same-length-2 : tie.Need-same-length-2
+same-length-2 c = search needs
+
+returns-2 : tie.Need-returns-2
+returns-2 c =
+    let sold = c .before .before .before .before .before in
+    let bought = sold .before .before .before .before in
+    let moved = bought .before .before in
+    let start = moved .before .before .before .before .before .before .before .before in
+    let crossed = moved .before .before .before .before .if1 .left in
+    let a = auctioned (start .args .auction) in
+    λ os b buys sells.
+    c .fills-from .ensures (start .args .heading) a os
+    (bought .queue-of .ensures .given a os crossed (moved .moved-into .ensures) b buys)
+    (sold .queue-of2 .ensures .given a os crossed (moved .moved-into .ensures) b sells)
 
 pub fills-of-spec : {M : Type 1} → statement M
 fills-of-spec =
     tie.close
     (tie.spec
-    ranks-of-requires
-    offers-of-requires
-    offers-of-requires-2
-    aheads-of-requires
-    most-total-requires
-    wholes-of-requires
-    wholes-of-requires-2
-    common-total-requires
-    handed-out-requires
-    returns)
+    returns
+    moved-into-requires
+    queue-of-requires
+    queue-of-requires-2
+    slice-reshare-prefix-fills-from
+    slice-aggregate-fills-from
+    slice-reshare-prefix-fills-from-2
+    slice-aggregate-fills-from-2
+    fills-from-requires
+    same-length
+    same-length-2
+    returns-2)

@@ -1,91 +1,92 @@
--- `auction_price` meets its contract: the four limits on the two ladders are those that the law of the auction asks for, and its first test is
--- whether anything is carried.
-use mathlib.Core.Path.{_∙_}
+-- `auction_price` meets its contract: the orders that hold the last piece and the next one have the four limits that the law of the auction
+-- asks for, and its first test is whether anything is carried.
 use borrow.Author.Needs.{needs}
-use Rattle.rules.proofs.Tests.{tests}
-use Rattle.pricing.proofs.Prices.{volume-most, nothing-carried, some-carried}
+use Rattle.pricing.proofs.Meeting.{limit-told, holds-last}
+use Rattle.pricing.proofs.Prices.{nothing-carried, some-carried}
 use Rattle.pricing.proofs.auction_price.Statement.{statement}
 use Rattle.pricing.proofs.auction_price.Tie as tie
 
-ladder-of-requires : tie.Need-ladder-of-requires
-ladder-of-requires c κs = search needs
+meet-requires : tie.Need-meet-requires
+meet-requires c κs = search needs
 
-ladder-of-requires-2 : tie.Need-ladder-of-requires-2
-ladder-of-requires-2 c κs = search needs
+place-at-requires : tie.Need-place-at-requires
+place-at-requires c κs = search needs
 
-greatest-volume-requires : tie.Need-greatest-volume-requires
-greatest-volume-requires c κs = search needs
+price-at-requires : tie.Need-price-at-requires
+price-at-requires c κs = search needs
 
-add-t23 : tie.Need-add-t23
-add-t23 c =
-    let volume = c .before in
-    let sells = volume .before .before .before .before .before .before .before .before .before in
-    let buys = sells .before in
-    let d = buys .ladder-of .ensures in
-    let s = sells .ladder-of2 .ensures in
-    let h = buys .before .args .heading in
-    search (tests, volume .greatest-volume .ensures h _ d s, volume-most h _ d s, d .room)
+place-at-requires-2 : tie.Need-place-at-requires-2
+place-at-requires-2 c κs = search needs
 
-piece-limit-requires : tie.Need-piece-limit-requires
-piece-limit-requires c κs = search needs
-
-piece-limit-requires-2 : tie.Need-piece-limit-requires-2
-piece-limit-requires-2 c κs = search needs
+price-at-requires-2 : tie.Need-price-at-requires-2
+price-at-requires-2 c κs = search needs
 
 uncrossed-price-requires : tie.Need-uncrossed-price-requires
 uncrossed-price-requires c κs = search needs
 
 returns : tie.Need-returns
-returns c =
+returns c os b s =
     let ask = c .before .before .before in
-    let bid = ask .before .before .before in
-    let volume = bid .before .before .before .before in
-    let sells = volume .before .before .before .before .before .before .before .before .before in
-    let buys = sells .before in
-    let d = buys .ladder-of .ensures in
-    let s = sells .ladder-of2 .ensures in
-    c .uncrossed-price .ensures
-    ∙ nothing-carried _ _ _ (volume .greatest-volume .ensures (buys .before .args .heading) _ d s) (bid .piece-limit .ensures _ d)
-    (ask .piece-limit2 .ensures _ s) (c .before .if1 .taken)
+    let bid = ask .before .before in
+    let met = bid .before .before in
+    let m = met .meet .ensures (met .before .before .before .args .heading) os b s in
+    nothing-carried _ _ os (m .volume) (limit-told b (m .buy) (bid .before .place-at .ensures) (bid .price-at .ensures))
+    (limit-told s (m .sell) (ask .before .place-at2 .ensures) (ask .price-at2 .ensures)) (c .before .if1 .taken) (c .uncrossed-price .ensures)
 
-piece-limit-requires-3 : tie.Need-piece-limit-requires-3
-piece-limit-requires-3 c κs = search needs
+last-holder-requires : tie.Need-last-holder-requires
+last-holder-requires c κs = search needs
 
-piece-limit-requires-4 : tie.Need-piece-limit-requires-4
-piece-limit-requires-4 c κs = search needs
+last-holder-requires-2 : tie.Need-last-holder-requires-2
+last-holder-requires-2 c κs = search needs
+
+place-at-requires-3 : tie.Need-place-at-requires-3
+place-at-requires-3 c κs = search needs
+
+price-at-requires-3 : tie.Need-price-at-requires-3
+price-at-requires-3 c κs = search needs
+
+place-at-requires-4 : tie.Need-place-at-requires-4
+place-at-requires-4 c κs = search needs
+
+price-at-requires-4 : tie.Need-price-at-requires-4
+price-at-requires-4 c κs = search needs
 
 crossed-price-requires : tie.Need-crossed-price-requires
 crossed-price-requires c κs = search needs
 
 returns-2 : tie.Need-returns-2
-returns-2 c =
+returns-2 c os b s =
     let to = c .before in
-    let from = to .before .before .before in
-    let tested = from .before .before .before in
+    let from = to .before .before in
+    let seller = from .before .before in
+    let tested = seller .before .before in
     let ask = tested .before .before in
-    let bid = ask .before .before .before in
-    let volume = bid .before .before .before .before in
-    let sells = volume .before .before .before .before .before .before .before .before .before in
-    let buys = sells .before in
-    let d = buys .ladder-of .ensures in
-    let s = sells .ladder-of2 .ensures in
-    some-carried _ _ _ (volume .greatest-volume .ensures (buys .before .args .heading) _ d s) (bid .piece-limit .ensures _ d)
-    (ask .piece-limit2 .ensures _ s) (tested .if1 .left) (from .piece-limit3 .ensures _ s) (to .piece-limit4 .ensures _ d)
+    let bid = ask .before .before in
+    let met = bid .before .before in
+    let m = met .meet .ensures (met .before .before .before .args .heading) os b s in
+    let some = tested .if1 .left in
+    some-carried _ _ os (m .volume) (limit-told b (m .buy) (bid .before .place-at .ensures) (bid .price-at .ensures))
+    (limit-told s (m .sell) (ask .before .place-at2 .ensures) (ask .price-at2 .ensures)) some
+    (limit-told s (holds-last s (m .sell) some (m .sold) (seller .last-holder2 .ensures)) (from .before .place-at3 .ensures) (from .price-at3 .ensures))
+    (limit-told b (holds-last b (m .buy) some (m .bought) (seller .before .last-holder .ensures)) (to .before .place-at4 .ensures) (to .price-at4 .ensures))
     (c .crossed-price .ensures)
 
 pub auction-price-spec : {M : Type 1} → statement M
 auction-price-spec =
     tie.close
     (tie.spec
-    ladder-of-requires
-    ladder-of-requires-2
-    greatest-volume-requires
-    add-t23
-    piece-limit-requires
-    piece-limit-requires-2
+    meet-requires
+    place-at-requires
+    price-at-requires
+    place-at-requires-2
+    price-at-requires-2
     uncrossed-price-requires
     returns
-    piece-limit-requires-3
-    piece-limit-requires-4
+    last-holder-requires
+    last-holder-requires-2
+    place-at-requires-3
+    price-at-requires-3
+    place-at-requires-4
+    price-at-requires-4
     crossed-price-requires
     returns-2)

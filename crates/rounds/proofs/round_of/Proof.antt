@@ -1,43 +1,89 @@
--- `round_of` meets its contract: each of its three steps is that of the rules on the orders as they stand in their places.
-use mathlib.Core.Path.{_≡_}
-use lib.ListN.{length}
+-- `round_of` meets its contract: the lines in force are those of the orders as they stand, and each of the two steps on them is that of the rules.
+use native.Mathlib.Omega.{arith}
+use lib.ListN.{length-take}
 use borrow.Author.Needs.{needs}
 use Rattle.rules.proofs.Tests.{tests}
 use Rattle.rounds.proofs.OneRound.{round-is}
 use Rattle.rounds.proofs.round_of.Statement.{statement}
 use Rattle.rounds.proofs.round_of.Tie as tie
 
-limits-in-force-requires : tie.Need-limits-in-force-requires
-limits-in-force-requires c κs = search needs
+slice-aggregate-line-in-force : tie.Need-slice-aggregate-line-in-force
+slice-aggregate-line-in-force c = search needs
+
+line-in-force-requires : tie.Need-line-in-force-requires
+line-in-force-requires c κs = (c .before .before .before .pre .0, search tests)
+
+slice-aggregate-line-in-force-2 : tie.Need-slice-aggregate-line-in-force-2
+slice-aggregate-line-in-force-2 c = search needs
+
+line-in-force-requires-2 : tie.Need-line-in-force-requires-2
+line-in-force-requires-2 c κs = (c .before .before .before .before .before .before .pre .1, search tests)
+
+array-share-prefix-buys : tie.Need-array-share-prefix-buys
+array-share-prefix-buys c = search needs
+
+slice-aggregate-auction-price : tie.Need-slice-aggregate-auction-price
+slice-aggregate-auction-price c = let l = c .before .before .before .before .before .line-in-force .ensures in simp length-take (omega (arith, l .0, l .1))
+
+array-share-prefix-sells : tie.Need-array-share-prefix-sells
+array-share-prefix-sells c = search needs
+
+slice-aggregate-auction-price-2 : tie.Need-slice-aggregate-auction-price-2
+slice-aggregate-auction-price-2 c = let l = c .before .before .before .line-in-force2 .ensures in simp length-take (omega (arith, l .0, l .1))
 
 auction-price-requires : tie.Need-auction-price-requires
-auction-price-requires c κs = search needs
+auction-price-requires c κs =
+    let s = c .before .before .before .line-in-force2 .ensures in
+    let l = c .before .before .before .before .before .before .line-in-force .ensures in
+    simp length-take (omega (arith, l .0, l .1, s .0, s .1))
+
+array-borrow-prefix-buys : tie.Need-array-borrow-prefix-buys
+array-borrow-prefix-buys c = search needs
+
+slice-aggregate-fills-of : tie.Need-slice-aggregate-fills-of
+slice-aggregate-fills-of c = let l = c .before .before .before .before .before .before .before .before .line-in-force .ensures in simp length-take (omega (arith, l .0, l .1))
+
+array-borrow-prefix-sells : tie.Need-array-borrow-prefix-sells
+array-borrow-prefix-sells c = search needs
+
+slice-aggregate-fills-of-2 : tie.Need-slice-aggregate-fills-of-2
+slice-aggregate-fills-of-2 c = let l = c .before .before .before .before .before .before .line-in-force2 .ensures in simp length-take (omega (arith, l .0, l .1))
 
 fills-of-requires : tie.Need-fills-of-requires
-fills-of-requires c κs = search needs
+fills-of-requires c κs =
+    let s = c .before .before .before .before .before .before .line-in-force2 .ensures in
+    let l = c .before .before .before .before .before .before .before .before .before .line-in-force .ensures in
+    simp length-take (omega (arith, l .0, l .1, s .0, s .1))
 
 purchase-price-requires : tie.Need-purchase-price-requires
 purchase-price-requires c κs = search needs
 
-long : (c : tie.Start) → length (c .args .orders) ≡ 120
-long c = search tests
-
 returns : tie.Need-returns
 returns c =
-    let filled = c .before .before .before .before in
-    let priced = filled .before in
-    let stood = priced .before in
-    let start = stood .before in
-    let a = start .args in
-    round-is (a .heading) (a .last .0) (a .orders) (a .remaining) (long start) (stood .limits-in-force .ensures)
-    (priced .auction-price .ensures) (filled .fills-of .ensures) (c .purchase-price .ensures)
+    let sold = c .before .before .before .before .before .before .before .before .before .before .before .before .before in
+    let bought = sold .before .before .before in
+    λ orders buy sell g.
+    let b = bought .line-in-force .ensures .2 orders buy g in
+    let s = sold .line-in-force2 .ensures .2 orders sell g in
+    round-is _ _ _ (c .before .before .before .before .before .before .before .before .before .auction-price .ensures _ b s) (c .before .before .before .before .before .before .fills-of .ensures _ (g .bounded) b s) (c .purchase-price .ensures)
 
 pub round-of-spec : {M : Type 1} → statement M
 round-of-spec =
     tie.close
     (tie.spec
-    limits-in-force-requires
+    slice-aggregate-line-in-force
+    line-in-force-requires
+    slice-aggregate-line-in-force-2
+    line-in-force-requires-2
+    array-share-prefix-buys
+    slice-aggregate-auction-price
+    array-share-prefix-sells
+    slice-aggregate-auction-price-2
     auction-price-requires
+    array-borrow-prefix-buys
+    slice-aggregate-fills-of
+    array-borrow-prefix-sells
+    slice-aggregate-fills-of-2
     fills-of-requires
     purchase-price-requires
     returns)

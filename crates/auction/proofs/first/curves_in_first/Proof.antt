@@ -1,8 +1,13 @@
--- `curves_in_first` meets its contract: a price off the grid is refused, on the grid both curves are read from the orders as they stand.
+-- `curves_in_first` meets its contract: a price off the grid is refused, on the grid both curves are read from the lines of their sides.
 use mathlib.Core.Path.{sym, _∙_}
-use borrow.Author.Tests.{not-true, not-false}
-use Rattle.auction.proofs.FirstRound.{off-grid, curves-stand}
+use native.Mathlib.Omega.{arith}
+use lib.ListN.{length-take}
 use borrow.Author.Needs.{needs}
+use borrow.Author.Tests.{not-true, not-false}
+use Rattle.laws.proofs.Places.{placed-on}
+use Rattle.rules.proofs.Grid.{on-grid}
+use Rattle.rules.specs.declared.Side.the-variants.{Buy, Sell}
+use Rattle.auction.proofs.FirstRound.{off-grid, curves-stand}
 use Rattle.auction.proofs.first.curves_in_first.Statement.{statement}
 use Rattle.auction.proofs.first.curves_in_first.Tie as tie
 
@@ -12,22 +17,55 @@ on-grid-requires c κs = search needs
 returns : tie.Need-returns
 returns c = λ ws a. off-grid a _ (sym (c .before .on-grid .ensures) ∙ not-true _ (c .if1 .taken))
 
-standing-first-requires : tie.Need-standing-first-requires
-standing-first-requires c κs = search needs
+slice-aggregate-first-line : tie.Need-slice-aggregate-first-line
+slice-aggregate-first-line c = search needs
+
+first-line-requires : tie.Need-first-line-requires
+first-line-requires c κs = search needs
+
+slice-aggregate-first-line-2 : tie.Need-slice-aggregate-first-line-2
+slice-aggregate-first-line-2 c = search needs
+
+first-line-requires-2 : tie.Need-first-line-requires-2
+first-line-requires-2 c κs = search needs
+
+array-share-prefix-buys : tie.Need-array-share-prefix-buys
+array-share-prefix-buys c = let l = c .before .before .before .before .first-line .ensures in omega (arith, l .0, l .1)
+
+slice-aggregate-pieces-at : tie.Need-slice-aggregate-pieces-at
+slice-aggregate-pieces-at c = let l = c .before .before .before .before .before .first-line .ensures in simp length-take (omega (arith, l .0, l .1))
+
+place-of-requires : tie.Need-place-of-requires
+place-of-requires c κs = search needs
 
 pieces-at-requires : tie.Need-pieces-at-requires
-pieces-at-requires c κs = search needs
+pieces-at-requires c κs = let l = c .before .before .before .before .before .before .first-line .ensures in simp length-take (omega (arith, l .0, l .1))
+
+array-share-prefix-sells : tie.Need-array-share-prefix-sells
+array-share-prefix-sells c = let l = c .before .before .before .before .first-line2 .ensures in omega (arith, l .0, l .1)
+
+slice-aggregate-pieces-at-2 : tie.Need-slice-aggregate-pieces-at-2
+slice-aggregate-pieces-at-2 c = let l = c .before .before .before .before .before .first-line2 .ensures in simp length-take (omega (arith, l .0, l .1))
+
+place-of-requires-2 : tie.Need-place-of-requires-2
+place-of-requires-2 c κs = search needs
 
 pieces-at-requires-2 : tie.Need-pieces-at-requires-2
-pieces-at-requires-2 c κs = search needs
+pieces-at-requires-2 c κs = let l = c .before .before .before .before .before .before .first-line2 .ensures in simp length-take (omega (arith, l .0, l .1))
 
 smaller-requires : tie.Need-smaller-requires
 smaller-requires c κs = search needs
 
 returns-2 : tie.Need-returns-2
-returns-2 c = λ ws a.
-    curves-stand a _ (sym (c .before .before .before .before .before .on-grid .ensures) ∙ not-false _ (c .before .before .before .before .if1 .left)) (c .before .before .before .standing-first .ensures ws a)
-    (c .before .before .pieces-at .ensures) (c .before .pieces-at2 .ensures) (c .smaller .ensures)
+returns-2 c =
+    let on = sym (c .before .before .before .before .before .before .before .before .before .before .before .before .before .before .on-grid .ensures) ∙ not-false _ (c .before .before .before .before .before .before .before .before .before .before .before .before .before .if1 .left) in
+    let buy = c .before .before .before .before .before .place-of .ensures in
+    let sell = c .before .before .place-of2 .ensures in
+    λ ws a.
+    curves-stand a _ on
+    (rw buy at (c .before .before .before .before .pieces-at .ensures Buy _ (c .before .before .before .before .before .before .before .before .before .before .before .first-line .ensures .2 ws a) (rw buy (placed-on Buy _ (on-grid _ on)))))
+    (rw sell at (c .before .pieces-at2 .ensures Sell _ (c .before .before .before .before .before .before .before .before .first-line2 .ensures .2 ws a) (rw sell (placed-on Sell _ (on-grid _ on)))))
+    (c .smaller .ensures)
 
 pub curves-in-first-spec : {M : Type 1} → statement M
 curves-in-first-spec =
@@ -35,8 +73,17 @@ curves-in-first-spec =
     (tie.spec
     on-grid-requires
     returns
-    standing-first-requires
+    slice-aggregate-first-line
+    first-line-requires
+    slice-aggregate-first-line-2
+    first-line-requires-2
+    array-share-prefix-buys
+    slice-aggregate-pieces-at
+    place-of-requires
     pieces-at-requires
+    array-share-prefix-sells
+    slice-aggregate-pieces-at-2
+    place-of-requires-2
     pieces-at-requires-2
     smaller-requires
     returns-2)

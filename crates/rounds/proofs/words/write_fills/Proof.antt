@@ -2,15 +2,15 @@
 -- is the number of fills left.
 use Prim.Native.Nat.{_-_}
 use native.Mathlib.Omega.{arith}
-use Rattle.rules.specs.Words.{word}
+use Rattle.lines.specs.Pieces.{piecesOf}
 use Rattle.rules.proofs.Tests.{tests}
-use Rattle.rounds.specs.Rounds.{fillAt}
+use Rattle.rules.specs.Words.{word}
 use Rattle.rounds.proofs.Written.{Painted, painted-none, painted-more, painted-length, painted-all}
 use Rattle.rounds.proofs.words.write_fills.Statement.{statement}
 use Rattle.rounds.proofs.words.write_fills.Tie as tie
 
 abbrev Inv-loop : tie.InvT-loop
-Inv-loop out₀ count fills i₀ out i = Painted (λ k. word 14 (fillAt fills k)) out₀ out i
+Inv-loop out₀ count fills i₀ out i = Painted (λ k. word 14 (piecesOf fills k)) out₀ out i
 
 abbrev μ-loop : tie.MeasureT-loop
 μ-loop out₀ count fills i₀ out i = count - i

@@ -4,12 +4,12 @@ use mathlib.Core.Path.{sym, _∙_}
 use Prim.Native.Nat.{ℕ, _-_}
 use native.Mathlib.Omega.{arith}
 use lib.ListN.{length, length-set, length-take, length-drop}
-use borrow.Rule.Slice.PartMut.{same-len-mid}
 use borrow.Author.Needs.{needs}
+use borrow.Rule.Slice.PartMut.{same-len-mid}
+use Rattle.lines.specs.Pieces.{piecesOf}
+use Rattle.rules.proofs.Lists.{map-listed}
 use Rattle.rules.specs.Opening.{roundWords}
 use Rattle.rules.specs.Words.{word}
-use Rattle.rules.proofs.Lists.{map-listed}
-use Rattle.rounds.specs.Rounds.{fillAt}
 use Rattle.rounds.proofs.Written.{four, round-written, fills-fit}
 use Rattle.rounds.proofs.words.write_round.Statement.{statement}
 use Rattle.rounds.proofs.words.write_round.Tie as tie
@@ -82,7 +82,7 @@ returns c =
     let second = third .before in
     let first = second .before in
     let start = first .before .before in
-    let fills = c .before .before .write-fills .ensures ∙ sym (map-listed (word 14) (fillAt (start .args .round .fills)) (start .args .count)) in
+    let fills = c .before .before .write-fills .ensures ∙ sym (map-listed (word 14) (piecesOf (start .args .round .fills)) (start .args .count)) in
     rw (← first .word .ensures, ← second .word2 .ensures, ← third .word3 .ensures, ← fourth .word4 .ensures)
     (round-written (start .args .out .now) (first .word .result) (second .word2 .result) (third .word3 .result) (fourth .word4 .result)
     (omega (arith, start .pre .1)) fills)

@@ -1,10 +1,11 @@
-use borrow.Author.Tests.{eq-eqb}
--- `ending_after` meets its contract.
-use Rattle.rules.specs.Opening.{endingAfter}
-use Rattle.rules.proofs.Tests.{tests}
 use borrow.Author.Needs.{needs}
+use borrow.Author.Tests.{eq-eqb}
+use Rattle.rules.proofs.Tests.{tests}
+use Rattle.rules.specs.Opening.{endingAfter}
 use Rattle.run.proofs.ending.ending_after.Statement.{statement}
 use Rattle.run.proofs.ending.ending_after.Tie as tie
+
+-- `ending_after` meets its contract.
 
 in-band-requires : tie.Need-in-band-requires
 in-band-requires c κs = search needs

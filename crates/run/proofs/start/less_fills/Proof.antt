@@ -2,15 +2,15 @@
 -- left.
 use mathlib.Core.Path.{ap}
 use Prim.Native.Nat.{ℕ, _-_}
-use Rattle.rounds.specs.Rounds.{fillAt}
-use Rattle.run.specs.Starts.{lessFills}
-use Rattle.run.proofs.Places.{Placed, placed-none, placed-more, placed-all}
+use Rattle.lines.specs.Pieces.{piecesOf}
 use Rattle.rules.proofs.Tests.{tests}
+use Rattle.run.proofs.Places.{Placed, placed-none, placed-more, placed-all}
+use Rattle.run.specs.Starts.{lessFills}
 use Rattle.run.proofs.start.less_fills.Statement.{statement}
 use Rattle.run.proofs.start.less_fills.Tie as tie
 
 abbrev Inv-loop : tie.InvT-loop
-Inv-loop remaining fills left₀ k₀ left k = Placed (λ j. record { 0 = fillAt remaining j - fillAt fills j }) left k
+Inv-loop remaining fills left₀ k₀ left k = Placed (λ j. record { 0 = piecesOf remaining j - piecesOf fills j }) left k
 
 abbrev μ-loop : tie.MeasureT-loop
 μ-loop remaining fills left₀ k₀ left k = 120 - k

@@ -1,0 +1,5 @@
+pub mod Booking
+pub mod Summing
+pub mod Halving
+pub mod Stepping
+pub mod Lining

@@ -1,3 +1,0 @@
-pub mod Ladder
-pub mod Limits
-pub mod Steps

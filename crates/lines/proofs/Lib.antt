@@ -1,0 +1,6 @@
+pub mod Entries
+pub mod Kept
+pub mod Held
+pub mod Standing
+pub mod Ordered
+pub mod Reading

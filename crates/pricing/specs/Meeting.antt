@@ -1,0 +1,33 @@
+-- How far the lines of both sides meet, and the orders that hold the last piece that is carried and the next one.
+use mathlib.Core.Bool.{Bool, _&&_}
+use mathlib.Core.List.{List}
+use mathlib.Core.Path.{_≡_}
+use Prim.Native.Nat.{ℕ, suc, _+_, _≤_, _<_}
+use lib.Dec.{ltb}
+use lib.ListN.{length}
+use Rattle.laws.proofs.Crossing.{greatest}
+use Rattle.lines.specs.Lines.{placeAt, upTo}
+use Rattle.rules.specs.Grid.{lastPrice}
+use Rattle.rules.specs.declared.Heading.{Heading}
+use Rattle.rules.specs.declared.Standing.{Standing}
+use Rattle.pricing.specs.declared.meet.Met.{Met}
+
+-- Orders i and j of two lines are there and meet.
+unfoldable pub meetAt : List ℕ → ℕ → List ℕ → ℕ → Bool
+meetAt bids i asks j =
+    ltb i (length bids) && (ltb j (length asks) && ltb lastPrice (placeAt bids i + placeAt asks j))
+
+-- Order i of a line holds piece v: the orders before it have fewer, with it they have as many. Where v is more than all have, i is the
+-- place after the last.
+pub record Holds (line : List ℕ) (i v : ℕ) : Type 0 where
+  pub within : i ≤ length line
+  pub past : upTo line i < v
+  pub most : i < length line → v ≤ upTo line (suc i)
+
+-- The two lines meet for the greatest volume, and the orders reached hold the next piece.
+pub record MetAs (h : Heading) (os : List Standing) (bids asks : List ℕ) (r : Met) : Type 0 where
+  pub volume : r .volume ≡ greatest h os
+  pub buy : Holds bids (r .buys) (suc (r .volume))
+  pub bought : r .bought ≡ upTo bids (r .buys)
+  pub sell : Holds asks (r .sells) (suc (r .volume))
+  pub sold : r .sold ≡ upTo asks (r .sells)
