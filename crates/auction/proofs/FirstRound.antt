@@ -11,10 +11,11 @@ use lib.Seq.{getD-take}
 use borrow.Author.Tests.{le-ltb, lt-ltb}
 use Rattle.book.specs.Book.{Ranged}
 use Rattle.book.specs.Filed.{filedIn, remainingIn}
-use Rattle.laws.proofs.Places.{placeOf, price-placed}
+use Rattle.laws.proofs.Places.{placeOf, price-placed, placed-on}
 use Rattle.laws.proofs.Priority.{side-same}
 use Rattle.laws.proofs.Rounds.{count-orders, standing-at, length-standing}
-use Rattle.lines.specs.Lines.{LineOf}
+use Rattle.lines.proofs.Ordered.{held-curve}
+use Rattle.lines.specs.Lines.{LineOf, heldAt}
 use Rattle.rules.proofs.Accepted.{SoundHeading, SoundSheet, accepted-sound}
 use Rattle.rules.proofs.Downwards.{Stops, refused-stops, downwards-append}
 use Rattle.rules.proofs.Grid.{OnGrid, on-grid}
@@ -143,13 +144,16 @@ module _ {ws : List ℕ} {h : Heading} {orders : List Order} (a : AcceptedAs ws 
     pub off-grid : onGrid p ≡ false → refuses 9 0 ≡ answer (curvesAt ws p)
     off-grid off = rw (curves-answer, off)
 
-    pub curves-stand : onGrid p ≡ true → {d s v : ℕ} → d ≡ curve Buy (firstStanding ws) (nth Buy (placeOf Buy p))
-        → s ≡ curve Sell (firstStanding ws) (nth Sell (placeOf Sell p)) → v ≡ min d s
+    pub curves-stand : onGrid p ≡ true → {bids asks : List ℕ} {d s v : ℕ} → LineOf Buy (firstStanding ws) bids → d ≡ heldAt bids (placeOf Buy p)
+        → LineOf Sell (firstStanding ws) asks → s ≡ heldAt asks (placeOf Sell p) → v ≡ min d s
         → gives (d ∷ s ∷ v ∷ []) ≡ answer (curvesAt ws p)
     unfolding level
-    curves-stand e demand supply volume =
-        let on : OnGrid p = on-grid p e in
-        rw (curves-answer, e, volume, rw (price-placed Buy p on) at demand, rw (price-placed Sell p on) at supply)
+    curves-stand e buys demand sells supply volume =
+        rw (curves-answer, e, volume, demand ∙ held Buy buys, supply ∙ held Sell sells)
+      where
+        held : (t : Side) {line : List ℕ} → LineOf t (firstStanding ws) line → heldAt line (placeOf t p) ≡ curve t (firstStanding ws) p
+        held t q =
+            held-curve q (placeOf t p) (placed-on t p (on-grid p e)) ∙ ap (curve t (firstStanding ws)) (price-placed t p (on-grid p e))
 
 -- ---- From the reading to the answer
 

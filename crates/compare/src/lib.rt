@@ -2,7 +2,8 @@
 ghost use mathlib.Core.Path.{_≡_};
 ghost use Prim.Native.Nat.{_≤_, max, min};
 ghost use Rattle.rules.specs.Grid.{movedInto};
-ghost use Rattle.rules.specs.Limits.{sameSide};
+ghost use Rattle.rules.specs.Limits.{sameSide, withoutLimit};
+use rules::Heading;
 use rules::Price;
 use rules::Side;
 use rules::Total;
@@ -67,5 +68,15 @@ pub fn same_side(side: Side, other: Side) -> bool
             Side::Buy => false,
             Side::Sell => true,
         },
+    }
+}
+
+// What is entered for no limit: the upper bound for a buy, the lower one for a sell.
+pub fn without_limit(heading: Heading, side: Side) -> Price
+    ensures { λ r. ⌜ r .0 ≡ withoutLimit heading side ⌝ }
+{
+    match side {
+        Side::Buy => heading.upper,
+        Side::Sell => heading.lower,
     }
 }

@@ -4,7 +4,7 @@ use mathlib.Core.Bool.{Bool, true, false, _&&_, false≢true}
 use mathlib.Core.List.{List}
 use mathlib.Core.Logic.{_⊎_, inl, inr}
 use mathlib.Core.Path.{_≡_, refl, sym, ap, _∙_}
-use Prim.Native.Nat.{ℕ, zero, suc, _+_, _-_, _*_, _≤_, _<_, zero-le}
+use Prim.Native.Nat.{ℕ, suc, _+_, _-_, _*_, _≤_, _<_, zero-le}
 use native.Mathlib.Nat.{le-refl}
 use native.Mathlib.Numerals.{add-one}
 use native.Mathlib.Omega.{arith}
@@ -14,6 +14,7 @@ use borrow.Author.Tests.{ltb-true, lt-ltb}
 use Rattle.laws.proofs.Orders.{left}
 use Rattle.laws.proofs.Priority.{three}
 use Rattle.laws.proofs.Sums.{sum-longer}
+use Rattle.lines.proofs.Standing.{up-to-room}
 use Rattle.lines.specs.Keys.{room, numberIn, wholeIn, amountIn}
 use Rattle.lines.specs.Lines.{upTo}
 use Rattle.rules.proofs.Grid.{both}
@@ -39,22 +40,14 @@ pub summed-none : (queue : List ℕ) → Summed queue 0 0
 unfolding sumTo
 summed-none queue = record { few = zero-le; summed = refl }
 
-up-to-small : (queue : List ℕ) (i : ℕ) → upTo queue i ≤ i * room
-unfolding sumTo
-up-to-small queue zero = zero-le
-up-to-small queue (suc i) = omega (arith, up-to-small queue i)
-
 module _ {queue : List ℕ} {i sum : ℕ} (so : Summed queue i sum) where
   -- the pieces of 120 orders have room in 64 bits
   pub summed-small : length queue ≤ 120 → sum ≤ 120 * room
-  summed-small most = omega (arith, so .few, so .summed, up-to-small queue i)
+  summed-small most = omega (arith, so .few, so .summed, up-to-room queue i)
 
   pub summed-more : i < length queue → {x : ℕ} → x ≡ amountIn (item queue i) → Summed queue (i + 1) (sum + x)
   unfolding sumTo
   summed-more more e = record { few = omega arith; summed = rw (add-one i, so .summed, e) }
-
-  pub summed-all : length queue ≤ i → sum ≡ upTo queue (length queue)
-  summed-all done = so .summed ∙ ap (upTo queue) (omega (arith, so .few))
 
 -- ---- What a total splits
 

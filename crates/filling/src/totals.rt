@@ -19,7 +19,7 @@ ghost use Rattle.filling.specs.Reaching.{ReachedFrom};
 use compare::smaller;
 use lines::keys::amount_in;
 use lines::keys::whole_in;
-use rules::Total;
+use lines::line::pieces_at;
 
 // A total that a side can lawfully reach, how many orders of its queue may get pieces of it, and the pieces of
 // these.
@@ -27,20 +27,6 @@ pub(crate) struct Reached {
     pub total: u64,
     pub orders: usize,
     pub sum: u64,
-}
-
-// The pieces of a queue.
-fn sum_of(queue: &[u64]) -> u64
-    requires { ⌜ length (now queue) ≤ 120 ⌝ }
-    ensures { λ r. ⌜ r ≡ upTo (now (queue .entry)) (length (now (queue .entry))) ⌝ }
-{
-    let mut sum: u64 = 0;
-    let mut i: usize = 0;
-    while i < queue.len() {
-        sum += amount_in(queue[i]);
-        i += 1;
-    }
-    sum
 }
 
 // Whether a total would split an order, where so many pieces stand up to it and the total is above those
@@ -92,11 +78,11 @@ pub(crate) fn common_total(bids: &[u64], asks: &[u64]) -> u64
     requires { ⌜ (length (now bids) ≤ 120) × (length (now asks) ≤ 120) ⌝ }
     ensures { λ r. ⌜ ((h : Heading) (a : Auction) (os : List Standing) → QueueOf h a os Buy (now (bids .entry)) → QueueOf h a os Sell (now (asks .entry)) → r ≡ largestTotal h a os) ⌝ }
 {
-    let wanted = sum_of(bids);
-    let offered = sum_of(asks);
-    let most = smaller(Total(wanted), Total(offered)).0;
-    let mut buy = reached_from(bids, bids.len(), wanted, most);
-    let mut sell = reached_from(asks, asks.len(), offered, most);
+    let wanted = pieces_at(bids, 0);
+    let offered = pieces_at(asks, 0);
+    let most = smaller(wanted, offered).0;
+    let mut buy = reached_from(bids, bids.len(), wanted.0, most);
+    let mut sell = reached_from(asks, asks.len(), offered.0, most);
     'walk: loop {
         while buy.total <= sell.total {
             if sell.total == buy.total {

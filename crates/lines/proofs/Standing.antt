@@ -4,10 +4,11 @@ use mathlib.Core.Bool.{cond}
 use mathlib.Core.List.{List}
 use mathlib.Core.Logic.{_⊎_, inl, inr}
 use mathlib.Core.Path.{_≡_, refl, sym, _∙_}
-use Prim.Native.Nat.{ℕ, suc, _≤_, _<_, zero-le}
+use Prim.Native.Nat.{ℕ, zero, suc, _*_, _≤_, _<_, zero-le}
 use native.Mathlib.Nat.{le-refl, le-trans}
 use native.Mathlib.Omega.{arith}
 use lib.Dec.{leb}
+use lib.ListN.{length}
 use borrow.Author.Tests.{le-leb, lt-leb}
 use Rattle.laws.proofs.Reach.{reach, reach-is}
 use Rattle.laws.proofs.Sums.{last-or-before, sum-longer, sum-stops}
@@ -17,8 +18,8 @@ use Rattle.rules.proofs.Sums.{sum-same, sum-le}
 use Rattle.rules.specs.Grid.{lastPrice}
 use Rattle.rules.specs.Lists.{sumTo}
 use Rattle.sorting.specs.Sorted.{item}
-use Rattle.lines.specs.Keys.{placeIn}
-use Rattle.lines.specs.Lines.{Kept, placeAt, Stands}
+use Rattle.lines.specs.Keys.{room, placeIn}
+use Rattle.lines.specs.Lines.{Kept, placeAt, upTo, heldAt, Stands}
 
 -- ---- How far a side reaches
 
@@ -97,3 +98,15 @@ module _ {entryOf : ℕ → ℕ} {m n : ℕ} {xs : List ℕ} (q : Kept entryOf m
     where
       all : (p : ℕ) → OnGrid p → F p ≡ sumTo (λ j. adds w p (item xs j)) n
       all p on = told p on ∙ sym (q .kept (adds w p) (adds-nothing w p (on .0)))
+
+-- ---- The pieces of a line
+
+-- no sum over a line runs out of room
+pub up-to-room : (line : List ℕ) (i : ℕ) → upTo line i ≤ i * room
+unfolding sumTo
+up-to-room line zero = zero-le
+up-to-room line (suc i) = omega (arith, up-to-room line i)
+
+-- at place 0 all of them stand
+pub held-all : (line : List ℕ) → heldAt line 0 ≡ upTo line (length line)
+held-all line = sum-same _ _ (length line) (λ j l. rw (le-leb 0 (placeAt line j) zero-le))

@@ -13,7 +13,7 @@ use Rattle.laws.proofs.Crossing.{pieceLimit, greatest, crosses}
 use Rattle.laws.proofs.Reach.{reach}
 use Rattle.laws.proofs.Sums.{last-or-before}
 use Rattle.lines.proofs.Ordered.{line-placed, line-stands, line-rises}
-use Rattle.lines.proofs.Standing.{held-by, held-by-none}
+use Rattle.lines.proofs.Standing.{held-by, held-by-none, up-to-room}
 use Rattle.lines.specs.Keys.{room, placeIn, amountIn}
 use Rattle.lines.specs.Lines.{LineOf, placeAt, upTo}
 use Rattle.rules.proofs.Grid.{both}
@@ -92,11 +92,6 @@ pub record Passed (line : List ℕ) (i pieces : ℕ) : Type 0 where
 passed-none : (line : List ℕ) → Passed line 0 0
 unfolding sumTo
 passed-none line = record { within = zero-le; sum = refl }
-
-up-to-room : (line : List ℕ) (i : ℕ) → upTo line i ≤ i * room
-unfolding sumTo
-up-to-room line zero = zero-le
-up-to-room line (suc i) = omega (arith, up-to-room line i)
 
 -- 1 where a test holds
 abbrev pub oneIf : Bool → ℕ

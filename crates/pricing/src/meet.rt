@@ -3,7 +3,7 @@
 ghost use mathlib.Core.Bool.{cond};
 ghost use mathlib.Core.List.{List};
 ghost use mathlib.Core.Path.{_≡_};
-ghost use Prim.Native.Nat.{_-_, _≤_, min};
+ghost use Prim.Native.Nat.{_-_, _≤_};
 ghost use lib.Dec.{leb, ltb};
 ghost use lib.ListN.{length};
 ghost use Rattle.lines.specs.Lines.{LineOf, placeAt};
@@ -11,9 +11,11 @@ ghost use Rattle.rules.specs.declared.Heading as heading;
 ghost use Rattle.rules.specs.declared.Side.the-variants.{Buy, Sell};
 ghost use Rattle.rules.specs.declared.Standing as standing;
 ghost use Rattle.pricing.specs.Meeting.{meetAt, MetAs};
+use compare::smaller;
 use lines::keys::amount_in;
 use lines::keys::place_in;
 use rules::LAST_PRICE;
+use rules::Total;
 
 // The pieces that meet, the orders of both sides that hold the next one, and the pieces before those orders.
 pub(crate) struct Met {
@@ -44,12 +46,6 @@ fn meets(bids: &[u64], i: usize, asks: &[u64], j: usize) -> bool
     LAST_PRICE < place_in(bids[i]) + place_in(asks[j])
 }
 
-fn least(a: u64, b: u64) -> u64
-    ensures { λ r. ⌜ r ≡ min a b ⌝ }
-{
-    if a < b { a } else { b }
-}
-
 // 1 where a number is at most another, else 0.
 fn at_most(a: u64, b: u64) -> usize
     ensures { λ r. ⌜ (r ≡ cond (leb a b) 1 0) × (r ≤ 1) ⌝ }
@@ -78,7 +74,7 @@ pub(crate) fn meet(bids: &[u64], asks: &[u64]) -> Met
     while meets(bids, buys, asks, sells) {
         let demand = bought + amount_in(bids[buys]);
         let supply = sold + amount_in(asks[sells]);
-        volume = least(demand, supply);
+        volume = smaller(Total(demand), Total(supply)).0;
         buys += at_most(demand, supply);
         sells += at_most(supply, demand);
         bought = passed(bought, demand, supply);

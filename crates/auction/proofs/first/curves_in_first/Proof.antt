@@ -4,9 +4,7 @@ use native.Mathlib.Omega.{arith}
 use lib.ListN.{length-take}
 use borrow.Author.Needs.{needs}
 use borrow.Author.Tests.{not-true, not-false}
-use Rattle.laws.proofs.Places.{placed-on}
 use Rattle.rules.proofs.Grid.{on-grid}
-use Rattle.rules.specs.declared.Side.the-variants.{Buy, Sell}
 use Rattle.auction.proofs.FirstRound.{off-grid, curves-stand}
 use Rattle.auction.proofs.first.curves_in_first.Statement.{statement}
 use Rattle.auction.proofs.first.curves_in_first.Tie as tie
@@ -57,14 +55,10 @@ smaller-requires : tie.Need-smaller-requires
 smaller-requires c κs = search needs
 
 returns-2 : tie.Need-returns-2
-returns-2 c =
-    let on = sym (c .before .before .before .before .before .before .before .before .before .before .before .before .before .before .on-grid .ensures) ∙ not-false _ (c .before .before .before .before .before .before .before .before .before .before .before .before .before .if1 .left) in
-    let buy = c .before .before .before .before .before .place-of .ensures in
-    let sell = c .before .before .place-of2 .ensures in
-    λ ws a.
-    curves-stand a _ on
-    (rw buy at (c .before .before .before .before .pieces-at .ensures Buy _ (c .before .before .before .before .before .before .before .before .before .before .before .first-line .ensures .2 ws a) (rw buy (placed-on Buy _ (on-grid _ on)))))
-    (rw sell at (c .before .pieces-at2 .ensures Sell _ (c .before .before .before .before .before .before .before .before .first-line2 .ensures .2 ws a) (rw sell (placed-on Sell _ (on-grid _ on)))))
+returns-2 c = λ ws a.
+    curves-stand a _ (sym (c .before .before .before .before .before .before .before .before .before .before .before .before .before .before .on-grid .ensures) ∙ not-false _ (c .before .before .before .before .before .before .before .before .before .before .before .before .before .if1 .left))
+    (c .before .before .before .before .before .before .before .before .before .before .before .first-line .ensures .2 ws a) (rw (c .before .before .before .before .before .place-of .ensures) at (c .before .before .before .before .pieces-at .ensures))
+    (c .before .before .before .before .before .before .before .before .first-line2 .ensures .2 ws a) (rw (c .before .before .place-of2 .ensures) at (c .before .pieces-at2 .ensures))
     (c .smaller .ensures)
 
 pub curves-in-first-spec : {M : Type 1} → statement M

@@ -1,43 +1,56 @@
 -- `common_total` meets its contract. One invariant for both loops, `Walks`: both totals are lawful, and no common lawful total is above
 -- either. The inner loop lowers the sell total, the outer one the buy total; they are the measures.
+use mathlib.Core.Path.{_∙_, _≡_}
 use native.Mathlib.Nat.{le-refl}
 use native.Mathlib.Omega.{arith}
+use lib.ListN.{length}
+use Rattle.lines.proofs.Standing.{held-all}
+use Rattle.lines.specs.Lines.{upTo}
 use Rattle.rules.proofs.Tests.{tests}
 use Rattle.filling.proofs.Walk.{Walks, walk-starts, sell-steps, buy-steps, walk-ends}
 use Rattle.filling.proofs.totals.common_total.Statement.{statement}
 use Rattle.filling.proofs.totals.common_total.Tie as tie
 
 abbrev Inv-loop : tie.InvT-loop
-Inv-loop bids asks wanted offered most buy sell₀ sell = Walks bids asks buy sell
+Inv-loop bids asks most buy sell₀ sell = Walks bids asks buy sell
 
 abbrev μ-loop : tie.MeasureT-loop
-μ-loop bids asks wanted offered most buy sell₀ sell = sell .total
+μ-loop bids asks most buy sell₀ sell = sell .total
 
 abbrev Inv-walk : tie.InvT-walk
-Inv-walk bids asks wanted offered most buy₀ sell₀ buy sell = Walks bids asks buy sell
+Inv-walk bids asks most buy₀ sell₀ buy sell = Walks bids asks buy sell
 
 abbrev μ-walk : tie.MeasureT-walk
-μ-walk bids asks wanted offered most buy₀ sell₀ buy sell = buy .total
+μ-walk bids asks most buy₀ sell₀ buy sell = buy .total
 
-sum-of-requires : tie.Need-sum-of-requires Inv-loop μ-loop Inv-walk μ-walk
-sum-of-requires c κs = search tests
+pieces-at-requires : tie.Need-pieces-at-requires Inv-loop μ-loop Inv-walk μ-walk
+pieces-at-requires c κs = search tests
 
-sum-of-requires-2 : tie.Need-sum-of-requires-2 Inv-loop μ-loop Inv-walk μ-walk
-sum-of-requires-2 c κs = search tests
+pieces-at-requires-2 : tie.Need-pieces-at-requires-2 Inv-loop μ-loop Inv-walk μ-walk
+pieces-at-requires-2 c κs = search tests
+
+-- at place 0 all pieces of a queue stand
+wanted : (c : tie.After-pieces-at Inv-loop μ-loop Inv-walk μ-walk)
+    → c .pieces-at .result .0 ≡ upTo (c .before .before .before .args .bids .now) (length (c .before .before .before .args .bids .now))
+wanted c = c .pieces-at .ensures ∙ held-all (c .before .before .before .args .bids .now)
+
+offered : (c : tie.After-pieces-at2 Inv-loop μ-loop Inv-walk μ-walk)
+    → c .pieces-at2 .result .0 ≡ upTo (c .before .before .before .before .args .asks .now) (length (c .before .before .before .before .args .asks .now))
+offered c = c .pieces-at2 .ensures ∙ held-all (c .before .before .before .before .args .asks .now)
 
 smaller-requires : tie.Need-smaller-requires Inv-loop μ-loop Inv-walk μ-walk
 smaller-requires c κs = search tests
 
 reached-from-requires : tie.Need-reached-from-requires Inv-loop μ-loop Inv-walk μ-walk
-reached-from-requires c κs = (le-refl _, c .before .before .sum-of .ensures)
+reached-from-requires c κs = (le-refl _, wanted (c .before .before))
 
 reached-from-requires-2 : tie.Need-reached-from-requires-2 Inv-loop μ-loop Inv-walk μ-walk
-reached-from-requires-2 c κs = (le-refl _, c .before .before .sum-of2 .ensures)
+reached-from-requires-2 c κs = (le-refl _, offered (c .before .before))
 
 walk-holds : tie.Need-walk-holds Inv-loop μ-loop Inv-walk μ-walk
 walk-holds c =
     let m = c .before .before in
-    walk-starts (m .before .before .sum-of .ensures) (m .before .sum-of2 .ensures) (m .smaller .ensures) (c .before .reached-from .ensures)
+    walk-starts (wanted (m .before .before)) (offered (m .before)) (m .smaller .ensures) (c .before .reached-from .ensures)
     (c .reached-from2 .ensures)
 
 loop-holds : tie.Need-loop-holds Inv-loop μ-loop Inv-walk μ-walk
@@ -76,8 +89,8 @@ common-total-spec =
     μ-loop
     Inv-walk
     μ-walk
-    sum-of-requires
-    sum-of-requires-2
+    pieces-at-requires
+    pieces-at-requires-2
     smaller-requires
     reached-from-requires
     reached-from-requires-2

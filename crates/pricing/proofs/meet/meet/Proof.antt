@@ -59,8 +59,8 @@ add-supply c =
     let walk = t .before .before in
     omega (arith, passed-few (walk .loop .inv .sell), there t .sell, walk .before .before .before .pre .1, c .amount-in2 .ensures .1)
 
-least-requires : tie.Need-least-requires Inv-loop μ-loop
-least-requires c κs = search tests
+smaller-requires : tie.Need-smaller-requires Inv-loop μ-loop
+smaller-requires c κs = search tests
 
 at-most-requires : tie.Need-at-most-requires Inv-loop μ-loop
 at-most-requires c κs = search tests
@@ -103,7 +103,7 @@ loop-again c =
     let least = sells .before .before in
     let bid = least .before .before .before in
     let t = bid .before .before in
-    walked-more (t .before .before .loop .inv) (there t) (bid .amount-in .ensures .0) (least .before .amount-in2 .ensures .0) (least .least .ensures)
+    walked-more (t .before .before .loop .inv) (there t) (bid .amount-in .ensures .0) (least .before .amount-in2 .ensures .0) (least .smaller .ensures)
     (sells .before .at-most .ensures .0) (sells .at-most2 .ensures .0) (c .before .passed .ensures) (c .passed2 .ensures)
 
 returns : tie.Need-returns Inv-loop μ-loop
@@ -125,7 +125,7 @@ meet-spec =
     shared-slice-read-amount-in-2
     amount-in-requires-2
     add-supply
-    least-requires
+    smaller-requires
     at-most-requires
     add-buys
     at-most-requires-2
