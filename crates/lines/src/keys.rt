@@ -6,7 +6,7 @@ ghost use mathlib.Core.Path.{_≡_};
 ghost use Prim.Native.Nat.{_≤_, _<_};
 ghost use Rattle.laws.proofs.Places.{placeOf};
 ghost use Rattle.rules.specs.Grid.{nth};
-ghost use Rattle.lines.specs.Keys.{room, placeRoom, mostPlaces, entryAt, placeIn, numberIn, wholeIn, amountIn, withAmount, atPlace};
+ghost use Rattle.lines.specs.Keys.{room, mostPlaces, entryAt, placeIn, numberIn, wholeIn, amountIn, withAmount, atPlace};
 use compare::greater;
 use compare::lesser;
 use rules::LAST_PRICE;
