@@ -1,6 +1,6 @@
-// An order's entry on its side: the place of its limit, basic before all-or-none, the lower number first, and
-// an amount, in one number, so that the larger entry goes first. Places are counted from the side's worst
-// price on. In a line the amount is the order's pieces.
+// An order's key on its side: the place of its limit, basic before all-or-none, the lower number first, so that
+// the larger key goes first. Places are counted from the side's worst price on. An entry is a key and an amount
+// below it in one number: in a line the order's pieces, in the book one more than a Stepper ignores.
 ghost use mathlib.Core.Bool.{cond};
 ghost use mathlib.Core.Path.{_≡_};
 ghost use Prim.Native.Nat.{_≤_, _<_};
