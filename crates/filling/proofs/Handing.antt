@@ -13,6 +13,7 @@ use lib.Seq.{getD-set-same, getD-set-other}
 use Rattle.laws.proofs.Orders.{left, side, el}
 use Rattle.laws.proofs.Priority.{three}
 use Rattle.laws.proofs.Sums.{last-or-before, sum-longer}
+use Rattle.lines.proofs.Standing.{GoneBy, gone-none, gone-more}
 use Rattle.lines.specs.Keys.{numberIn, amountIn}
 use Rattle.lines.specs.Lines.{upTo}
 use Rattle.lines.specs.Pieces.{mostPieces, piecesOf}
@@ -26,7 +27,6 @@ use Rattle.rules.specs.declared.Pieces.{Pieces}
 use Rattle.rules.specs.declared.Side.{Side}
 use Rattle.rules.specs.declared.Standing.{Standing}
 use Rattle.sorting.specs.Sorted.{item}
-use Rattle.filling.proofs.Reaching.{Summed, summed-none, summed-more}
 use Rattle.filling.specs.Handing.{Given, HandedTo}
 use Rattle.filling.specs.Queues.{PlaceOf}
 
@@ -36,7 +36,7 @@ part os queue total j = min (left os (numberIn (item queue j))) (total - upTo qu
 
 -- the first i orders of the queue have got theirs
 pub record HandedOut (queue : List ℕ) (total : ℕ) (before after : List Pieces) (upto i : ℕ) : Type 0 where
-  pub so-far : Summed queue i upto
+  pub so-far : GoneBy queue i upto
   pub long : length after ≡ mostOrders
   pub done : (h : Heading) (a : Auction) (os : List Standing) (s : Side) → Given h a os s queue → (j : ℕ) → j < i
       → piecesOf after (numberIn (item queue j)) ≡ part os queue total j
@@ -44,7 +44,7 @@ pub record HandedOut (queue : List ℕ) (total : ℕ) (before after : List Piece
 
 pub handed-none : (queue : List ℕ) (total : ℕ) {before : List Pieces} → length before ≡ mostOrders → HandedOut queue total before before 0 0
 handed-none queue total long = record {
-  so-far = summed-none queue;
+  so-far = gone-none queue;
   long = long;
   done = λ h a os s g j l. absurd (omega arith);
   rest = λ k never. refl;
@@ -81,7 +81,7 @@ module _ {queue : List ℕ} {total : ℕ} {before after : List Pieces} {upto i :
       → pieces ≡ amountIn (item queue i) → x .0 ≡ min (min pieces (total - upto)) mostPieces
       → HandedOut queue total before (set after number x) (upto + pieces) (i + 1)
   handed-more l {number} {pieces} {x} is fits own got = record {
-    so-far = summed-more (so .so-far) l own;
+    so-far = gone-more (so .so-far) l own;
     long = length-set after number x ∙ so .long;
     done = λ h a os s g j b. at h a os s g j (last-or-before (rw (add-one i) at b));
     rest = λ k never.
@@ -96,7 +96,7 @@ module _ {queue : List ℕ} {total : ℕ} {before after : List Pieces} {upto i :
           rw (q, own-pieces g i l, ← is)
           (ap (λ (m : Pieces). m .0) (getD-set-same after number x _ here)
           ∙ got
-          ∙ rw (own, so .so-far .summed) (least (amountIn (item queue i)) (total - upTo queue i) (own-small g i l)))
+          ∙ rw (own, so .so-far .sum) (least (amountIn (item queue i)) (total - upTo queue i) (own-small g i l)))
         where
           least : (x y : ℕ) → x ≤ mostPieces → min (min x y) mostPieces ≡ min x y
           least x y small = omega arith
@@ -116,14 +116,14 @@ module _ {queue : List ℕ} {total : ℕ} {before after : List Pieces} {upto i :
     shares = λ k l own none. got k l own none (el h a os k) refl;
     others = λ k never.
         so .rest k
-        (λ j b e. let o = g .standing .order j (omega (arith, so .so-far .few)) in never (rw (← e) (o .below)) (rw (← e) (o .own)));
+        (λ j b e. let o = g .standing .order j (omega (arith, so .so-far .within)) in never (rw (← e) (o .below)) (rw (← e) (o .own)));
   }
     where
       got : (k : ℕ) → k < length os → sameSide s (side os k) ≡ true → piecesOf before k ≡ 0 → (t : Bool) → el h a os k ≡ t
           → piecesOf after k ≡ cond t (min (left os k) (total - ahead h a os k)) 0
       got k l own none false e =
           so .rest k
-          (λ j b f. let o = g .standing .order j (omega (arith, so .so-far .few)) in false≢true (sym e ∙ rw (← f) (o .counts)))
+          (λ j b f. let o = g .standing .order j (omega (arith, so .so-far .within)) in false≢true (sym e ∙ rw (← f) (o .counts)))
           ∙ none
       got k l own none true e = some (left os k) refl
         where
@@ -131,7 +131,7 @@ module _ {queue : List ℕ} {total : ℕ} {before after : List Pieces} {upto i :
           some zero f =
               so .rest k
               (λ j b q.
-              let o = g .standing .order j (omega (arith, so .so-far .few)) in
+              let o = g .standing .order j (omega (arith, so .so-far .within)) in
               let more : 0 < left os k = rw (← q) (o .some) in
               omega arith)
               ∙ omega (arith, none)
@@ -147,7 +147,7 @@ module _ {queue : List ℕ} {total : ℕ} {before after : List Pieces} {upto i :
                       → piecesOf after k ≡ min (left os k) (total - ahead h a os k)
                   go begin (yes far) =
                       so .rest k
-                      (λ j b q. let same = once g j (p .place) (omega (arith, so .so-far .few)) (p .below) (q ∙ sym (p .is)) in omega arith)
+                      (λ j b q. let same = once g j (p .place) (omega (arith, so .so-far .within)) (p .below) (q ∙ sym (p .is)) in omega arith)
                       ∙ omega (arith, none, used (p .place) far (p .below))
                   go begin (no near) =
                       ap (piecesOf after) (sym (p .is)) ∙ so .done h a os s g (p .place) (omega (arith, near))
@@ -157,7 +157,7 @@ module _ {queue : List ℕ} {total : ℕ} {before after : List Pieces} {upto i :
   pub handed-enough : total ≤ upto → (h : Heading) (a : Auction) (os : List Standing) (s : Side) → Given h a os s queue
       → HandedTo h a os s total before after
   handed-enough used =
-      handed-all (λ j from to. omega (arith, so .so-far .summed, sum-longer (λ k. amountIn (item queue k)) i j from))
+      handed-all (λ j from to. omega (arith, so .so-far .sum, sum-longer (λ k. amountIn (item queue k)) i j from))
 
   pub handed-end : length queue ≤ i → (h : Heading) (a : Auction) (os : List Standing) (s : Side) → Given h a os s queue
       → HandedTo h a os s total before after

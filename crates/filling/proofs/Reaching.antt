@@ -4,9 +4,8 @@ use mathlib.Core.Bool.{Bool, true, false, _&&_, false≢true}
 use mathlib.Core.List.{List}
 use mathlib.Core.Logic.{_⊎_, inl, inr}
 use mathlib.Core.Path.{_≡_, refl, sym, ap, _∙_}
-use Prim.Native.Nat.{ℕ, suc, _+_, _-_, _*_, _≤_, _<_, zero-le}
+use Prim.Native.Nat.{ℕ, suc, _+_, _-_, _≤_, _<_, zero-le}
 use native.Mathlib.Nat.{le-refl}
-use native.Mathlib.Numerals.{add-one}
 use native.Mathlib.Omega.{arith}
 use lib.Dec.{ltb}
 use lib.ListN.{length}
@@ -14,8 +13,7 @@ use borrow.Author.Tests.{ltb-true, lt-ltb}
 use Rattle.laws.proofs.Orders.{left}
 use Rattle.laws.proofs.Priority.{three}
 use Rattle.laws.proofs.Sums.{sum-longer}
-use Rattle.lines.proofs.Standing.{up-to-room}
-use Rattle.lines.specs.Keys.{room, numberIn, wholeIn, amountIn}
+use Rattle.lines.specs.Keys.{numberIn, wholeIn, amountIn}
 use Rattle.lines.specs.Lines.{upTo}
 use Rattle.rules.proofs.Grid.{both}
 use Rattle.rules.specs.AuctionPrice.{Auction}
@@ -28,26 +26,6 @@ use Rattle.sorting.specs.Sorted.{item}
 use Rattle.filling.proofs.Stretch.{fallsInside, splits, Inside, inside, lowered, stays}
 use Rattle.filling.specs.Queues.{QueueOf}
 use Rattle.filling.specs.Reaching.{ReachedFrom}
-
--- ---- The pieces of the first orders
-
--- the pieces of the first i orders of a queue
-pub record Summed (queue : List ℕ) (i sum : ℕ) : Type 0 where
-  pub few : i ≤ length queue
-  pub summed : sum ≡ upTo queue i
-
-pub summed-none : (queue : List ℕ) → Summed queue 0 0
-unfolding sumTo
-summed-none queue = record { few = zero-le; summed = refl }
-
-module _ {queue : List ℕ} {i sum : ℕ} (so : Summed queue i sum) where
-  -- the pieces of 120 orders have room in 64 bits
-  pub summed-small : length queue ≤ 120 → sum ≤ 120 * room
-  summed-small most = omega (arith, so .few, so .summed, up-to-room queue i)
-
-  pub summed-more : i < length queue → {x : ℕ} → x ≡ amountIn (item queue i) → Summed queue (i + 1) (sum + x)
-  unfolding sumTo
-  summed-more more e = record { few = omega arith; summed = rw (add-one i, so .summed, e) }
 
 -- ---- What a total splits
 

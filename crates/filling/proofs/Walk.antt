@@ -8,6 +8,7 @@ use native.Mathlib.Nat.{le-refl}
 use native.Mathlib.Omega.{arith}
 use lib.ListN.{length}
 use Rattle.laws.proofs.Totals.{reaches-none, largest-ok, largest-is}
+use Rattle.lines.proofs.Standing.{GoneBy}
 use Rattle.lines.specs.Lines.{upTo}
 use Rattle.rules.proofs.Grid.{both}
 use Rattle.rules.proofs.Scan.{largest-ge}
@@ -17,7 +18,6 @@ use Rattle.rules.specs.declared.Heading.{Heading}
 use Rattle.rules.specs.declared.Side.{Side}
 use Rattle.rules.specs.declared.Side.the-variants.{Buy, Sell}
 use Rattle.rules.specs.declared.Standing.{Standing}
-use Rattle.filling.proofs.Reaching.{Summed}
 use Rattle.filling.specs.Queues.{QueueOf}
 use Rattle.filling.specs.Reaching.{ReachedFrom}
 use Rattle.filling.specs.declared.totals.Reached.{Reached}
@@ -54,22 +54,22 @@ module _ {h : Heading} {a : Auction} {os : List Standing} {s : Side} {queue : Li
 
 -- the same of any round whose queues they are
 pub record Walks (bids asks : List ℕ) (buy sell : Reached) : Type 0 where
-  pub bought : Summed bids (buy .orders) (buy .sum)
-  pub sold : Summed asks (sell .orders) (sell .sum)
+  pub bought : GoneBy bids (buy .orders) (buy .sum)
+  pub sold : GoneBy asks (sell .orders) (sell .sum)
   pub walking : (h : Heading) (a : Auction) (os : List Standing) → QueueOf h a os Buy bids → QueueOf h a os Sell asks
       → Walking h a os bids asks buy sell
 
-step-summed : {queue : List ℕ} {orders total : ℕ} {r : Reached} → ReachedFrom queue orders total r → orders ≤ length queue
-    → Summed queue (r .orders) (r .sum)
-step-summed f few = record { few = omega (arith, f .fewer); summed = f .summed }
+step-gone : {queue : List ℕ} {orders total : ℕ} {r : Reached} → ReachedFrom queue orders total r → orders ≤ length queue
+    → GoneBy queue (r .orders) (r .sum)
+step-gone f few = record { within = omega (arith, f .fewer); sum = f .summed }
 
 module _ {bids asks : List ℕ} {buy sell : Reached} where
   pub walk-starts : {wanted offered top : ℕ} → wanted ≡ upTo bids (length bids) → offered ≡ upTo asks (length asks)
       → top ≡ min wanted offered → ReachedFrom bids (length bids) top buy → ReachedFrom asks (length asks) top sell
       → Walks bids asks buy sell
   walk-starts {wanted} {offered} {top} b s e f g = record {
-    bought = step-summed f (le-refl _);
-    sold = step-summed g (le-refl _);
+    bought = step-gone f (le-refl _);
+    sold = step-gone g (le-refl _);
     walking = λ h a os p q.
         let all : top ≡ most h a os = rw (p .all, q .all, ← b, ← s) e in
         let enough-bid : top ≤ upTo bids (length bids) = omega arith in
@@ -86,7 +86,7 @@ module _ {bids asks : List ℕ} {buy sell : Reached} where
     pub sell-steps : buy .total ≤ sell .total → ReachedFrom asks (sell .orders) (buy .total) r → Walks bids asks buy r
     sell-steps above f = record {
       bought = w .bought;
-      sold = step-summed f (w .sold .few);
+      sold = step-gone f (w .sold .within);
       walking = λ h a os p q.
           let x = w .walking h a os p q in
           let enough : buy .total ≤ upTo asks (sell .orders) = omega (arith, x .sells .reached) in
@@ -100,7 +100,7 @@ module _ {bids asks : List ℕ} {buy sell : Reached} where
     -- and a buy total above the sell total likewise
     pub buy-steps : sell .total ≤ buy .total → ReachedFrom bids (buy .orders) (sell .total) r → Walks bids asks r sell
     buy-steps above f = record {
-      bought = step-summed f (w .bought .few);
+      bought = step-gone f (w .bought .within);
       sold = w .sold;
       walking = λ h a os p q.
           let x = w .walking h a os p q in

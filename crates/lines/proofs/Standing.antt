@@ -4,8 +4,9 @@ use mathlib.Core.Bool.{cond}
 use mathlib.Core.List.{List}
 use mathlib.Core.Logic.{_⊎_, inl, inr}
 use mathlib.Core.Path.{_≡_, refl, sym, _∙_}
-use Prim.Native.Nat.{ℕ, zero, suc, _*_, _≤_, _<_, zero-le}
+use Prim.Native.Nat.{ℕ, zero, suc, _*_, _+_, _≤_, _<_, zero-le}
 use native.Mathlib.Nat.{le-refl, le-trans}
+use native.Mathlib.Numerals.{add-one}
 use native.Mathlib.Omega.{arith}
 use lib.Dec.{leb}
 use lib.ListN.{length}
@@ -18,7 +19,7 @@ use Rattle.rules.proofs.Sums.{sum-same, sum-le}
 use Rattle.rules.specs.Grid.{lastPrice}
 use Rattle.rules.specs.Lists.{sumTo}
 use Rattle.sorting.specs.Sorted.{item}
-use Rattle.lines.specs.Keys.{room, placeIn}
+use Rattle.lines.specs.Keys.{room, placeIn, amountIn}
 use Rattle.lines.specs.Lines.{Kept, placeAt, upTo, heldAt, Stands}
 
 -- ---- How far a side reaches
@@ -102,10 +103,27 @@ module _ {entryOf : ℕ → ℕ} {m n : ℕ} {xs : List ℕ} (q : Kept entryOf m
 -- ---- The pieces of a line
 
 -- no sum over a line runs out of room
-pub up-to-room : (line : List ℕ) (i : ℕ) → upTo line i ≤ i * room
+up-to-room : (line : List ℕ) (i : ℕ) → upTo line i ≤ i * room
 unfolding sumTo
 up-to-room line zero = zero-le
 up-to-room line (suc i) = omega (arith, up-to-room line i)
+
+-- the first i orders of a line are gone by, and have so many pieces
+pub record GoneBy (line : List ℕ) (i pieces : ℕ) : Type 0 where
+  pub within : i ≤ length line
+  pub sum : pieces ≡ upTo line i
+
+pub gone-none : (line : List ℕ) → GoneBy line 0 0
+unfolding sumTo
+gone-none line = record { within = zero-le; sum = refl }
+
+module _ {line : List ℕ} {i pieces : ℕ} (so : GoneBy line i pieces) where
+  pub gone-room : pieces ≤ i * room
+  gone-room = omega (arith, so .sum, up-to-room line i)
+
+  pub gone-more : i < length line → {x : ℕ} → x ≡ amountIn (item line i) → GoneBy line (i + 1) (pieces + x)
+  unfolding sumTo
+  gone-more more e = record { within = omega arith; sum = rw (add-one i, so .sum, e) }
 
 -- at place 0 all of them stand
 pub held-all : (line : List ℕ) → heldAt line 0 ≡ upTo line (length line)

@@ -4,7 +4,7 @@ use mathlib.Core.Bool.{Bool, true, false, cond}
 use mathlib.Core.List.{List}
 use mathlib.Core.Logic.{_⊎_, inl, inr}
 use mathlib.Core.Path.{_≡_, refl, sym, ap, _∙_}
-use Prim.Native.Nat.{ℕ, zero, suc, _+_, _-_, _*_, _≤_, _<_, min, zero-le}
+use Prim.Native.Nat.{ℕ, zero, suc, _+_, _-_, _≤_, _<_, min, zero-le}
 use native.Mathlib.Omega.{arith}
 use lib.Dec.{leb, ltb}
 use lib.ListN.{length, List·getD-eq-default}
@@ -13,8 +13,8 @@ use Rattle.laws.proofs.Crossing.{pieceLimit, greatest, crosses}
 use Rattle.laws.proofs.Reach.{reach}
 use Rattle.laws.proofs.Sums.{last-or-before}
 use Rattle.lines.proofs.Ordered.{line-placed, line-stands, line-rises}
-use Rattle.lines.proofs.Standing.{held-by, held-by-none, up-to-room}
-use Rattle.lines.specs.Keys.{room, placeIn, amountIn}
+use Rattle.lines.proofs.Standing.{held-by, held-by-none, GoneBy, gone-none}
+use Rattle.lines.specs.Keys.{placeIn, amountIn}
 use Rattle.lines.specs.Lines.{LineOf, placeAt, upTo}
 use Rattle.rules.proofs.Grid.{both}
 use Rattle.rules.specs.AuctionPrice.{curve}
@@ -84,15 +84,6 @@ module _ {s : Side} {os : List Standing} {line : List ℕ} (q : LineOf s os line
 
 -- ---- The pieces of the orders that are passed
 
--- the first i orders of a line are passed, and have so many pieces
-pub record Passed (line : List ℕ) (i pieces : ℕ) : Type 0 where
-  pub within : i ≤ length line
-  pub sum : pieces ≡ upTo line i
-
-passed-none : (line : List ℕ) → Passed line 0 0
-unfolding sumTo
-passed-none line = record { within = zero-le; sum = refl }
-
 -- 1 where a test holds
 abbrev pub oneIf : Bool → ℕ
 oneIf t = cond t 1 0
@@ -103,11 +94,7 @@ record Step (line : List ℕ) (i before c d x after : ℕ) : Type 0 where
   one : x ≡ oneIf (leb c d)
   sum : after ≡ cond (leb c d) c before
 
-module _ {line : List ℕ} {i before : ℕ} (so : Passed line i before) where
-  -- no sum runs out of room
-  pub passed-few : before ≤ i * room
-  passed-few = omega (arith, so .sum, up-to-room line i)
-
+module _ {line : List ℕ} {i before : ℕ} (so : GoneBy line i before) where
   module _ (few : i < length line) {c d x after : ℕ} (p : Step line i before c d x after) where
     -- c counts the pieces up to order i
     next : c ≡ upTo line (suc i)
@@ -120,10 +107,10 @@ module _ {line : List ℕ} {i before : ℕ} (so : Passed line i before) where
     stays : leb c d ≡ false → i + x ≡ i
     stays e = let none : x ≡ 0 = p .one ∙ rw e in omega arith
 
-    passed-more : Passed line (i + x) after
+    passed-more : GoneBy line (i + x) after
     passed-more = go (leb c d) refl
       where
-        go : (t : Bool) → leb c d ≡ t → Passed line (i + x) after
+        go : (t : Bool) → leb c d ≡ t → GoneBy line (i + x) after
         go true e = rw (on e) (record { within = few; sum = p .sum ∙ rw e next })
         go false e = rw (stays e) (record { within = so .within; sum = p .sum ∙ rw e (so .sum) })
 
@@ -229,12 +216,12 @@ one-passed c d {x} {y} e f = go (leb c d) refl (leb d c) refl
 
 -- the walk has come to orders i and j, in every round whose lines these are
 pub record Walked (bids : List ℕ) (i bought : ℕ) (asks : List ℕ) (j sold v : ℕ) : Type 0 where
-  pub buy : Passed bids i bought
-  pub sell : Passed asks j sold
+  pub buy : GoneBy bids i bought
+  pub sell : GoneBy asks j sold
   pub met : (h : Heading) (os : List Standing) → LineOf Buy os bids → LineOf Sell os asks → Meeting h os bids i asks j v
 
 pub walked-none : (bids asks : List ℕ) → Walked bids 0 0 asks 0 0 0
-walked-none bids asks = record { buy = passed-none bids; sell = passed-none asks; met = λ h os b s. meeting-none h os b s }
+walked-none bids asks = record { buy = gone-none bids; sell = gone-none asks; met = λ h os b s. meeting-none h os b s }
 
 module _ {bids : List ℕ} {i bought : ℕ} {asks : List ℕ} {j sold v : ℕ} (k : Walked bids i bought asks j sold v) where
   pub walked-more : Both bids i asks j → {m n w x y b s : ℕ} → m ≡ amountIn (item bids i) → n ≡ amountIn (item asks j)

@@ -3,9 +3,9 @@
 use Prim.Native.Nat.{_-_}
 use native.Mathlib.Omega.{arith}
 use lib.ListN.{length}
+use Rattle.lines.proofs.Standing.{gone-room}
 use Rattle.rules.proofs.Tests.{tests}
 use Rattle.filling.proofs.Handing.{HandedOut, handed-none, handed-more, handed-enough, handed-end}
-use Rattle.filling.proofs.Reaching.{summed-small}
 use Rattle.filling.proofs.hand_out.Statement.{statement}
 use Rattle.filling.proofs.hand_out.Tie as tie
 
@@ -45,7 +45,7 @@ array-set-from-given c = omega (arith, c .before .number-in .ensures .1, c .befo
 add-ahead : tie.Need-add-ahead Inv-loop μ-loop
 add-ahead c =
     let l = c .before .before .before .before .before .before in
-    omega (arith, c .before .before .amount-in .ensures .1, summed-small (l .loop .inv .so-far) (l .before .before .pre))
+    omega (arith, c .before .before .amount-in .ensures .1, gone-room (l .loop .inv .so-far), l .loop .inv .so-far .within, l .before .before .pre)
 
 add-i : tie.Need-add-i Inv-loop μ-loop
 add-i c = search tests

@@ -57,7 +57,7 @@ loop-holds : tie.Need-loop-holds Inv-loop μ-loop Inv-walk μ-walk
 loop-holds c = c .walk .inv
 
 reached-from-requires-3 : tie.Need-reached-from-requires-3 Inv-loop μ-loop Inv-walk μ-walk
-reached-from-requires-3 c κs = let w = c .before .before .before .before .before .before .loop .inv in (w .sold .few, w .sold .summed)
+reached-from-requires-3 c κs = let w = c .before .before .before .before .before .before .loop .inv in (w .sold .within, w .sold .sum)
 
 loop-less : tie.Need-loop-less Inv-loop μ-loop Inv-walk μ-walk
 loop-less c = omega (arith, c .reached-from3 .ensures .low, c .before .before .before .before .if1 .taken, c .before .if2 .left)
@@ -68,7 +68,7 @@ loop-again c =
     sell-steps (t .before .before .before .loop .inv) (t .if1 .taken) (c .reached-from3 .ensures)
 
 reached-from-requires-4 : tie.Need-reached-from-requires-4 Inv-loop μ-loop Inv-walk μ-walk
-reached-from-requires-4 c κs = let w = c .before .before .before .loop .inv in (w .bought .few, w .bought .summed)
+reached-from-requires-4 c κs = let w = c .before .before .before .loop .inv in (w .bought .within, w .bought .sum)
 
 walk-less : tie.Need-walk-less Inv-loop μ-loop Inv-walk μ-walk
 walk-less c = omega (arith, c .reached-from4 .ensures .low, c .before .if1 .left)
