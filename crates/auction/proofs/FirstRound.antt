@@ -1,6 +1,6 @@
 -- The first round of a sheet. The places of an accepted sheet begin with its orders, so what the engine works out from heading and places
 -- is the rules' answer; a refused sheet stops every call with its own refusal.
-use mathlib.Core.Bool.{true, false, not, cond}
+use mathlib.Core.Bool.{true, false, not, cond, false≢true}
 use mathlib.Core.List.{List, [], _∷_, map}
 use mathlib.Core.Option.{Option, none, some}
 use mathlib.Core.Path.{_≡_, sym, ap, _∙_}
@@ -11,38 +11,37 @@ use lib.Seq.{getD-take}
 use borrow.Author.Tests.{le-ltb, lt-ltb}
 use Rattle.book.specs.Book.{Ranged}
 use Rattle.book.specs.Filed.{filedIn, remainingIn}
-use Rattle.laws.proofs.Places.{placeOf, price-placed, placed-on}
-use Rattle.laws.proofs.Priority.{side-same}
-use Rattle.laws.proofs.Rounds.{count-orders, standing-at, length-standing}
+use Rattle.claims.proofs.Places.{price-placed, placed-on}
+use Rattle.claims.specs.Places.{placeOf}
+use Rattle.claims.proofs.Priority.{side-same}
+use Rattle.claims.proofs.Rounds.{count-orders, standing-at, length-standing}
 use Rattle.lines.proofs.Ordered.{held-curve}
 use Rattle.lines.specs.Lines.{LineOf, heldAt}
-use Rattle.rules.proofs.Accepted.{SoundHeading, SoundSheet, accepted-sound}
-use Rattle.rules.proofs.Downwards.{Stops, refused-stops, downwards-append}
+use Rattle.rules.proofs.Accepted.{SoundHeading, SoundTerms, SoundOrder, own-rows, sheet-refuses}
 use Rattle.rules.proofs.Grid.{OnGrid, on-grid}
 use Rattle.rules.proofs.Lists.{length-listed}
-use Rattle.rules.specs.Answers.{gives, refuses, Check, row, checkAnswer, refusalNumber, refusalOrder, refused}
+use Rattle.rules.specs.Answers.{gives, refuses, Check, row, downwards, checkAnswer, refused}
 use Rattle.rules.specs.AuctionPrice.{curve, level}
 use Rattle.rules.specs.Calls.{stepperLimit, curvesAt, onSheet, isStepper, stepper, curvesOf, firstStanding, answerBy, answer}
-use Rattle.rules.specs.Grid.{nth, overGrid, onGrid}
+use Rattle.rules.specs.Grid.{nth, Scan, overGrid, onGrid}
 use Rattle.rules.specs.Limits.{sameSide, stands, limitInForce, enteredLimit, rivalPieces, stepped, noOrder, filed, numbered, standing}
 use Rattle.rules.specs.Opening.{firstStart}
-use Rattle.rules.specs.Sheet.{headingOf, ordersOf, sheetChecks, checkSheet}
+use Rattle.rules.specs.Sheet.{headingOf, ordersOf, AcceptedSheet}
 use Rattle.rules.specs.declared.Checked.the-variants.{Accepted, Refused}
 use Rattle.rules.specs.declared.Heading.{Heading}
 use Rattle.rules.specs.declared.Order.{Order}
 use Rattle.rules.specs.declared.Pieces.{Pieces}
-use Rattle.rules.specs.declared.Price.{Price}
 use Rattle.rules.specs.declared.Refusal.{Refusal}
 use Rattle.rules.specs.declared.Side.{Side}
 use Rattle.rules.specs.declared.Side.the-variants.{Buy, Sell}
 use Rattle.rules.specs.declared.Terms.{Terms}
-use Rattle.rules.specs.declared.Terms.the-variants.{Stepper}
-use Rattle.run.proofs.Accepted.{own-row, orders-are, count-is}
+use Rattle.rules.specs.declared.Terms.the-variants.{WithoutLimit, Limited, Stepper}
+use Rattle.run.proofs.Accepted.{orders-are, count-is, sound}
 use Rattle.run.proofs.Places.{remaining-first}
 use Rattle.run.proofs.Running.{round-ranged, running-none}
-use Rattle.run.specs.Accepted.{AcceptedAs}
+use Rattle.run.specs.Accepted.{AcceptedAs, OfSheet}
 use Rattle.run.specs.Starts.{startOf}
-use Rattle.sheet.specs.Reading.{headingRead, ReadsAs}
+use Rattle.sheet.specs.Reading.{headingRead, ReadsAs, OfWords}
 use Rattle.sheet.specs.declared.Reading.{Reading}
 
 -- ---- A Stepper's limit
@@ -76,70 +75,72 @@ module _ {ws : List ℕ} {h : Heading} {orders : List Order} (a : AcceptedAs ws 
   module _ (k : ℕ) where
     limit-answer : answer (stepperLimit ws k)
         ≡ cond (not (isStepper ws k)) (refuses 9 0) (gives (numbered (firstStanding ws) k .limit .0 ∷ []))
-    unfolding answer answerBy
-    limit-answer = own-row a (row 9 (not (isStepper ws k))) _
-
-    own-order : k < h .count → filed (ordersOf ws) k ≡ filed orders k
-    unfolding filedIn
-    own-order l = ap (λ (os : List Order). filed os k) (sym (orders-are a)) ∙ getD-take (h .count) orders k noOrder l
-
-    -- whether the order is a Stepper is told by its terms
-    own-terms : k < h .count → {t : Terms} → filed orders k .terms ≡ t → isStepper ws k ≡ stepper t
-    own-terms l e = rw (lt-ltb k (headingOf ws .count) (omega (arith, count-is a)), own-order l, e)
+    unfolding answer answerBy downwards
+    limit-answer = own-rows ws (a .passes) (row 9 (not (isStepper ws k)) ∷ []) _
 
     pub no-such-order : h .count ≤ k → refuses 9 0 ≡ answer (stepperLimit ws k)
     no-such-order past = rw (limit-answer, le-ltb k (headingOf ws .count) (omega (arith, count-is a)))
 
-    pub no-stepper : k < h .count → {t : Terms} → filed orders k .terms ≡ t → stepper t ≡ false
-        → refuses 9 0 ≡ answer (stepperLimit ws k)
-    no-stepper l e other = rw (limit-answer, own-terms l e, other)
+    module _ (l : k < h .count) where
+      own-order : filed (ordersOf ws) k ≡ filed orders k
+      unfolding filedIn
+      own-order = ap (λ (os : List Order). filed os k) (sym (orders-are a)) ∙ getD-take (h .count) orders k noOrder l
 
-    -- its order at its limit in force
-    own-stands : k < h .count → numbered (firstStanding ws) k
-        ≡ stands (filed orders k)
-        (limitInForce (headingOf ws) (filed orders k .side) (filed orders k .terms)
-        (overGrid (rivalPieces (headingOf ws) (ordersOf ws) (firstStart ws .remaining) k)))
-        (getD (firstStart ws .remaining) k 0)
-    unfolding firstStanding
-    own-stands l =
-        rw (← own-order l)
-        (standing-at (headingOf ws) (ordersOf ws) (firstStart ws .remaining) k (omega (arith, count-is a, count-orders ws)))
+      -- whether the order is a Stepper is told by its terms
+      own-terms : isStepper ws k ≡ stepper (filed orders k .terms)
+      own-terms = rw (lt-ltb k (headingOf ws .count) (omega (arith, count-is a)), own-order)
 
-    pub stepper-stands : k < h .count → {limit : Price} {ignored : Pieces} → filed orders k .terms ≡ Stepper limit ignored → {place p : ℕ}
-        → (k < length (firstStanding ws) → sameSide (filed orders k .side) (numbered (firstStanding ws) k .side) ≡ true
-        → 0 < numbered (firstStanding ws) k .remaining .0 → place ≡ placeOf (filed orders k .side) (numbered (firstStanding ws) k .limit .0))
-        → p ≡ nth (filed orders k .side) place → gives (p ∷ []) ≡ answer (stepperLimit ws k)
-    unfolding limitInForce enteredLimit firstStart
-    stepper-stands l {limit} {ignored} e found is =
-        rw (limit-answer, own-terms l e)
-        (ap (λ (x : ℕ). gives (x ∷ []))
-        (is ∙ ap (nth (filed orders k .side)) (found (omega (arith, count-first, count-is a)) own left) ∙ price-placed (filed orders k .side) _ on))
-      where
-        own-below : k < headingOf ws .count
-        own-below = omega (arith, count-is a)
+      pub no-stepper : stepper (filed orders k .terms) ≡ false → refuses 9 0 ≡ answer (stepperLimit ws k)
+      no-stepper other = rw (limit-answer, own-terms, other)
 
-        sheet : SoundSheet ws
-        sheet = accepted-sound ws (a .passes)
+      -- its order at its limit in force
+      own-stands : numbered (firstStanding ws) k
+          ≡ stands (filed orders k)
+          (limitInForce (headingOf ws) (filed orders k .side) (filed orders k .terms)
+          (overGrid (rivalPieces (headingOf ws) (ordersOf ws) (firstStart ws .remaining) k)))
+          (getD (firstStart ws .remaining) k 0)
+      unfolding firstStanding
+      own-stands =
+          rw (← own-order)
+          (standing-at (headingOf ws) (ordersOf ws) (firstStart ws .remaining) k (omega (arith, count-is a, count-orders ws)))
 
-        own : sameSide (filed orders k .side) (numbered (firstStanding ws) k .side) ≡ true
-        own = rw (own-stands l) (side-same (filed orders k .side))
+      own-sound : SoundOrder (filed orders k)
+      own-sound = rw (← own-order) (sound a .orders k noOrder (omega (arith, count-is a)))
 
-        left : 0 < numbered (firstStanding ws) k .remaining .0
-        left =
-            rw (own-stands l, List·getD-map (λ (o : Order). o .quantity .0) (ordersOf ws) k noOrder)
-            (sheet .orders k noOrder own-below .some)
+      own : sameSide (filed orders k .side) (numbered (firstStanding ws) k .side) ≡ true
+      own = rw own-stands (side-same (filed orders k .side))
 
-        on : OnGrid (numbered (firstStanding ws) k .limit .0)
-        on =
-            rw (own-stands l, e)
-            (stepped-on (headingOf ws) (filed orders k .side) (sheet .heading) (limit .0)
-            (rw (own-order l, e) at (sheet .orders k noOrder own-below .terms) .0) _)
+      some-left : 0 < numbered (firstStanding ws) k .remaining .0
+      unfolding firstStart
+      some-left =
+          rw (own-stands, List·getD-map (λ (o : Order). o .quantity .0) (ordersOf ws) k noOrder, own-order) (own-sound .some)
+
+      -- a Stepper's limit in force is a price of the grid
+      limit-on : stepper (filed orders k .terms) ≡ true → OnGrid (numbered (firstStanding ws) k .limit .0)
+      unfolding limitInForce enteredLimit
+      limit-on steps = rw own-stands (go (filed orders k .terms) steps (own-sound .terms) _)
+        where
+          go : (t : Terms) → stepper t ≡ true → SoundTerms t → (rivals : Scan ℕ)
+              → OnGrid (limitInForce (headingOf ws) (filed orders k .side) t rivals)
+          go (WithoutLimit w) e so rivals = absurd (false≢true e)
+          go (Limited limit w) e so rivals = absurd (false≢true e)
+          go (Stepper limit q) e so rivals = stepped-on (headingOf ws) (filed orders k .side) (sound a .heading) (limit .0) (so .0) _
+
+      pub stepper-stands : stepper (filed orders k .terms) ≡ true → {place p : ℕ}
+          → (k < length (firstStanding ws) → sameSide (filed orders k .side) (numbered (firstStanding ws) k .side) ≡ true
+          → 0 < numbered (firstStanding ws) k .remaining .0 → place ≡ placeOf (filed orders k .side) (numbered (firstStanding ws) k .limit .0))
+          → p ≡ nth (filed orders k .side) place → gives (p ∷ []) ≡ answer (stepperLimit ws k)
+      stepper-stands steps found is =
+          rw (limit-answer, own-terms, steps)
+          (ap (λ (x : ℕ). gives (x ∷ []))
+          (is ∙ ap (nth (filed orders k .side)) (found (omega (arith, count-first, count-is a)) own some-left)
+          ∙ price-placed (filed orders k .side) _ (limit-on steps)))
 
   module _ (p : ℕ) where
     curves-answer : answer (curvesAt ws p)
         ≡ cond (not (onGrid p)) (refuses 9 0) (gives (curvesOf (level (headingOf ws) (firstStanding ws) p)))
-    unfolding answer answerBy
-    curves-answer = own-row a (row 9 (not (onGrid p))) _
+    unfolding answer answerBy downwards
+    curves-answer = own-rows ws (a .passes) (row 9 (not (onGrid p)) ∷ []) _
 
     pub off-grid : onGrid p ≡ false → refuses 9 0 ≡ answer (curvesAt ws p)
     off-grid off = rw (curves-answer, off)
@@ -161,34 +162,22 @@ module _ (ws : List ℕ) {r : Reading} (reads : ReadsAs ws r) where
   pub accepted-as : r .checked ≡ Accepted → AcceptedAs ws (r .heading) (r .orders)
   unfolding headingRead
   accepted-as e =
-      let passes : checkSheet ws ≡ gives [] = sym (reads .checked) ∙ ap checkAnswer e in
+      let passes : AcceptedSheet ws = sym (reads .checked) ∙ ap checkAnswer e in
       record { passes = passes; headed = reads .heading ∙ rw passes; placed = reads .orders }
 
-  pub few-orders : r .checked ≡ Accepted → r .heading .count ≤ 120
-  few-orders e =
-      let a = accepted-as e in
-      rw (a .headed) (accepted-sound ws (a .passes) .heading .count)
-
-  -- a refused sheet refuses the call
-  pub refused-sheet : {refusal : Refusal} → r .checked ≡ Refused refusal → (own : Check) (vs : List ℕ)
+  -- a refused sheet refuses every call, whatever its rows
+  pub refused-call : {refusal : Refusal} → r .checked ≡ Refused refusal → (own : List Check) (vs : List ℕ)
       → refused refusal ≡ onSheet ws own vs
-  unfolding checkSheet
-  refused-sheet {refusal} e own vs =
-      let stops : Stops (sheetChecks ws) (refusalNumber refusal) (refusalOrder refusal) =
-      refused-stops (sheetChecks ws) [] (sym (reads .checked) ∙ ap checkAnswer e) in
-      sym (downwards-append (sheetChecks ws) (own ∷ []) (gives vs) ∙ stops .refuses-all _)
-
-  -- and is not accepted
-  pub not-accepted : {refusal : Refusal} → r .checked ≡ Refused refusal → checkSheet ws ≡ gives [] → ⊥
-  not-accepted {refusal} e accepted =
-      let clash : refused refusal ≡ gives [] = sym (ap checkAnswer e) ∙ reads .checked ∙ accepted in
-      let none : _≡_ {A = ℕ} 0 1 = cc in
-      absurd (omega arith)
+  refused-call e own vs = sym (sheet-refuses ws (sym (reads .checked) ∙ ap checkAnswer e) own vs)
 
   pub limit-refused : {refusal : Refusal} → r .checked ≡ Refused refusal → (k : ℕ) → refused refusal ≡ answer (stepperLimit ws k)
   unfolding answer answerBy
-  limit-refused e k = refused-sheet e _ _
+  limit-refused e k = refused-call e _ _
 
   pub curves-refused : {refusal : Refusal} → r .checked ≡ Refused refusal → (p : ℕ) → refused refusal ≡ answer (curvesAt ws p)
   unfolding answer answerBy
-  curves-refused e p = refused-sheet e _ _
+  curves-refused e p = refused-call e _ _
+
+-- a reading of an accepted sheet is one of its heading and orders
+pub of-sheet : {r : Reading} → OfWords r → r .checked ≡ Accepted → OfSheet (r .heading) (r .orders)
+of-sheet s e = record { words = s .words; accepted = accepted-as (s .words) (s .reads) e }

@@ -1,61 +1,40 @@
 // Document 01, "Opening": the calls on a sheet. Their arguments may be any numbers: the sheet's faults are
-// refused first, then what is not allowed.
+// refused first, then what is not allowed. Each call reads the sheet once and hands the reading on whole.
 mod first;
 mod whole;
 
 ghost use mathlib.Core.Path.{_≡_};
+ghost use Rattle.claims.specs.Calls.{FirstRound, Opened};
 ghost use Rattle.rules.specs.Answers.{priceAnswer, curvesAnswer, spaceAnswer};
-ghost use Rattle.rules.specs.Calls.{answer, stepperLimit, curvesAt, FirstRound, Opened};
+ghost use Rattle.rules.specs.Calls.{answer, stepperLimit, curvesAt};
 use first::curves_in_first;
 use first::limit_in_first;
 use first::round_in_first;
-use rules::Checked;
 use rules::CurvesAnswer;
 use rules::PriceAnswer;
 use rules::SpaceAnswer;
 use sheet::read_sheet;
-use whole::opening_in;
+use whole::opening_of;
 
 // The call that gives the limit in force of a Stepper in the first round, from the order's number.
 pub fn stepper_limit(words: &[u32], order: usize) -> PriceAnswer
     ensures { λ r. ⌜ priceAnswer r ≡ answer (stepperLimit (now (words .entry)) order) ⌝ }
 {
-    let reading = read_sheet(words);
-    let checked = reading.checked;
-    let heading = reading.heading;
-    let orders = reading.orders;
-    match checked {
-        Checked::Accepted => limit_in_first(heading, orders, order),
-        Checked::Refused(refusal) => PriceAnswer::Refused(refusal),
-    }
+    limit_in_first(read_sheet(words), order)
 }
 
 // The call that gives demand, supply and volume at a price in the first round.
 pub fn curves_at(words: &[u32], price: u32) -> CurvesAnswer
     ensures { λ r. ⌜ curvesAnswer r ≡ answer (curvesAt (now (words .entry)) price) ⌝ }
 {
-    let reading = read_sheet(words);
-    let checked = reading.checked;
-    let heading = reading.heading;
-    let orders = reading.orders;
-    match checked {
-        Checked::Accepted => curves_in_first(heading, orders, price),
-        Checked::Refused(refusal) => CurvesAnswer::Refused(refusal),
-    }
+    curves_in_first(read_sheet(words), price)
 }
 
 // The call that runs the first round and writes it into the lent space, which needs 4 + n words.
 pub fn first_round(words: &[u32], space: &mut [u32]) -> SpaceAnswer
     ensures { λ r. ⌜ FirstRound (now (words .entry)) (now (space .entry)) (now (space .exit)) (spaceAnswer r (now (space .exit))) ⌝ }
 {
-    let reading = read_sheet(words);
-    let checked = reading.checked;
-    let heading = reading.heading;
-    let orders = reading.orders;
-    match checked {
-        Checked::Accepted => round_in_first(heading, orders, space),
-        Checked::Refused(refusal) => SpaceAnswer::Refused(refusal),
-    }
+    round_in_first(read_sheet(words), space)
 }
 
 // The call that runs the opening and writes it into the lent space, which needs (n + 1) × (n + 4) + 1
@@ -63,12 +42,5 @@ pub fn first_round(words: &[u32], space: &mut [u32]) -> SpaceAnswer
 pub fn opening(words: &[u32], space: &mut [u32]) -> SpaceAnswer
     ensures { λ r. ⌜ Opened (now (words .entry)) (now (space .entry)) (now (space .exit)) (spaceAnswer r (now (space .exit))) ⌝ }
 {
-    let reading = read_sheet(words);
-    let checked = reading.checked;
-    let heading = reading.heading;
-    let orders = reading.orders;
-    match checked {
-        Checked::Accepted => opening_in(heading, orders, space),
-        Checked::Refused(refusal) => SpaceAnswer::Refused(refusal),
-    }
+    opening_of(read_sheet(words), space)
 }

@@ -1,3 +1,4 @@
+pub mod Remaining
 pub mod Booking
 pub mod Summing
 pub mod Halving

@@ -25,7 +25,7 @@ pub(crate) fn print_refusal(refusal: Refusal) {
     io::write_all(1, b"refused ");
     io::print_decimal(1, refusal.number() as u64);
     io::write_all(1, b" ");
-    io::print_decimal(1, refusal.order() as u64);
+    io::print_decimal(1, refusal.place() as u64);
     io::write_all(1, b"\n");
 }
 

@@ -1,8 +1,11 @@
 // What every part of the engine asks of numbers, prices, sides and places.
 ghost use mathlib.Core.Path.{_≡_};
 ghost use Prim.Native.Nat.{_≤_, max, min};
+ghost use Rattle.rules.specs.AuctionPrice.{inBand, auctioned};
+ghost use Rattle.rules.specs.Fills.{potentialPurchase};
 ghost use Rattle.rules.specs.Grid.{movedInto};
 ghost use Rattle.rules.specs.Limits.{sameSide, withoutLimit};
+use rules::Auctioned;
 use rules::Heading;
 use rules::Price;
 use rules::Side;
@@ -54,6 +57,23 @@ pub fn moved_into(lower: Price, upper: Price, price: Price) -> Price
     } else {
         price
     }
+}
+
+// Whether a price lies in the band.
+pub fn in_band(heading: Heading, price: Price) -> bool
+    ensures { λ r. ⌜ r ≡ inBand heading (price .0) ⌝ }
+{
+    (heading.lower.0 <= price.0) & (price.0 <= heading.upper.0)
+}
+
+// The potential purchase price: the auction price, moved into the band.
+pub fn potential_purchase(heading: Heading, auction: Auctioned) -> Price
+    ensures { λ r. ⌜ r .0 ≡ potentialPurchase heading (auctioned auction) ⌝ }
+{
+    let lower = heading.lower;
+    let upper = heading.upper;
+    let price = auction.price;
+    moved_into(lower, upper, price)
 }
 
 pub fn same_side(side: Side, other: Side) -> bool

@@ -7,16 +7,16 @@ use mathlib.Core.Path.{_≡_, refl, sym, ap, _∙_}
 use Prim.Native.Nat.{ℕ, zero, suc, _+_, _-_, _≤_, _<_, min}
 use native.Mathlib.Decide.{decLe}
 use native.Mathlib.Omega.{arith}
-use lib.ListN.{length, getD, replicate, length-append, length-replicate}
+use lib.ListN.{length, getD, replicate, length-append, length-replicate, List·getD-append}
 use lib.Seq.{getD-append-add, ext-getD}
 use borrow.Author.Tests.{ne-eqb}
 use borrow.Table.Elements.{map-app}
-use Rattle.laws.proofs.Handed.{share-out}
-use Rattle.laws.proofs.Orders.{side, el}
-use Rattle.laws.proofs.Sums.{sum-zero}
-use Rattle.laws.proofs.Totals.{fills-length}
+use Rattle.claims.proofs.Handed.{share-out}
+use Rattle.claims.specs.Orders.{side, el}
+use Rattle.claims.proofs.Sums.{sum-zero}
+use Rattle.claims.proofs.Totals.{fills-length}
 use Rattle.lines.specs.Pieces.{piecesOf}
-use Rattle.rules.proofs.Lists.{map-listed, length-listed, filled, filled-at}
+use Rattle.rules.proofs.Lists.{map-listed, length-listed, getD-listed}
 use Rattle.rules.proofs.Scan.{largest-le}
 use Rattle.rules.specs.AuctionPrice.{Auction}
 use Rattle.rules.specs.Fills.{eligible, offered, share, reaches, largestTotal, fillsOf}
@@ -62,21 +62,28 @@ places-are : (f : ℕ → ℕ) (n : ℕ) (fills : List Pieces) → n ≤ mostOrd
 unfolding inPlaces
 places-are f n fills few long here beyond =
     rw (length-listed f n, map-listed pieces f n)
-    (ext-getD (pieces 0) fills (filled g (pieces 0) mostOrders n) (long ∙ sym size) (λ k l. at k (decLe (suc k) n)))
+    (ext-getD (pieces 0) fills all (long ∙ sym size) (λ k l. at k (decLe (suc k) n)))
   where
     g : ℕ → Pieces
     g k = pieces (f k)
 
-    size : length (filled g (pieces 0) mostOrders n) ≡ mostOrders
+    all : List Pieces
+    all = listed g n ++ replicate (mostOrders - n) (pieces 0)
+
+    size : length all ≡ mostOrders
     size = simp (length-append, length-listed, length-replicate) (omega arith)
 
-    at : (k : ℕ) → Dec (suc k ≤ n) → getD fills k (pieces 0) ≡ getD (filled g (pieces 0) mostOrders n) k (pieces 0)
-    at k (yes l) = ap pieces (here k l) ∙ sym (filled-at g (pieces 0) mostOrders n k (pieces 0) l)
+    at : (k : ℕ) → Dec (suc k ≤ n) → getD fills k (pieces 0) ≡ getD all k (pieces 0)
+    at k (yes l) =
+        ap pieces (here k l)
+        ∙ sym
+        (List·getD-append (listed g n) (replicate (mostOrders - n) (pieces 0)) (pieces 0) k (omega (arith, length-listed g n))
+        ∙ getD-listed g n k (pieces 0) l)
     at k (no l) =
         let e : k ≡ length (listed g n) + (k - n) = omega (arith, length-listed g n, l) in
         ap pieces (beyond k (omega (arith, l)))
         ∙ sym
-        (ap (λ j. getD (filled g (pieces 0) mostOrders n) j (pieces 0)) e
+        (ap (λ j. getD all j (pieces 0)) e
         ∙ getD-append-add (listed g n) (replicate (mostOrders - n) (pieces 0)) (k - n) (pieces 0)
         ∙ nothing-at (mostOrders - n) (k - n))
 

@@ -10,12 +10,12 @@ use native.Mathlib.Numerals.{add-one}
 use native.Mathlib.Omega.{arith}
 use lib.ListN.{length, set, length-set}
 use lib.Seq.{getD-set-same, getD-set-other}
-use Rattle.laws.proofs.Orders.{left, side, el}
-use Rattle.laws.proofs.Priority.{three}
-use Rattle.laws.proofs.Sums.{last-or-before, sum-longer}
-use Rattle.lines.proofs.Standing.{GoneBy, gone-none, gone-more}
+use Rattle.claims.specs.Orders.{left, side, el}
+use Rattle.claims.proofs.Priority.{three}
+use Rattle.claims.proofs.Sums.{last-or-before, sum-longer}
+use Rattle.lines.proofs.Summing.{sum-none, sum-next, GoneBy}
 use Rattle.lines.specs.Keys.{numberIn, amountIn}
-use Rattle.lines.specs.Lines.{upTo}
+use Rattle.lines.specs.Lines.{Found, upTo}
 use Rattle.lines.specs.Pieces.{mostPieces, piecesOf}
 use Rattle.rules.specs.AuctionPrice.{Auction}
 use Rattle.rules.specs.Fills.{ahead, share}
@@ -28,7 +28,6 @@ use Rattle.rules.specs.declared.Side.{Side}
 use Rattle.rules.specs.declared.Standing.{Standing}
 use Rattle.sorting.specs.Sorted.{item}
 use Rattle.filling.specs.Handing.{Given, HandedTo}
-use Rattle.filling.specs.Queues.{PlaceOf}
 
 -- what the order at place j of a queue gets
 abbrev part : List Standing → List ℕ → ℕ → ℕ → ℕ
@@ -44,7 +43,7 @@ pub record HandedOut (queue : List ℕ) (total : ℕ) (before after : List Piece
 
 pub handed-none : (queue : List ℕ) (total : ℕ) {before : List Pieces} → length before ≡ mostOrders → HandedOut queue total before before 0 0
 handed-none queue total long = record {
-  so-far = gone-none queue;
+  so-far = sum-none _ _;
   long = long;
   done = λ h a os s g j l. absurd (omega arith);
   rest = λ k never. refl;
@@ -81,7 +80,7 @@ module _ {queue : List ℕ} {total : ℕ} {before after : List Pieces} {upto i :
       → pieces ≡ amountIn (item queue i) → x .0 ≡ min (min pieces (total - upto)) mostPieces
       → HandedOut queue total before (set after number x) (upto + pieces) (i + 1)
   handed-more l {number} {pieces} {x} is fits own got = record {
-    so-far = gone-more (so .so-far) l own;
+    so-far = sum-next (so .so-far) l own (omega (arith, own));
     long = length-set after number x ∙ so .long;
     done = λ h a os s g j b. at h a os s g j (last-or-before (rw (add-one i) at b));
     rest = λ k never.
@@ -96,7 +95,7 @@ module _ {queue : List ℕ} {total : ℕ} {before after : List Pieces} {upto i :
           rw (q, own-pieces g i l, ← is)
           (ap (λ (m : Pieces). m .0) (getD-set-same after number x _ here)
           ∙ got
-          ∙ rw (own, so .so-far .sum) (least (amountIn (item queue i)) (total - upTo queue i) (own-small g i l)))
+          ∙ rw (own, so .so-far .is) (least (amountIn (item queue i)) (total - upTo queue i) (own-small g i l)))
         where
           least : (x y : ℕ) → x ≤ mostPieces → min (min x y) mostPieces ≡ min x y
           least x y small = omega arith
@@ -135,29 +134,29 @@ module _ {queue : List ℕ} {total : ℕ} {before after : List Pieces} {upto i :
               let more : 0 < left os k = rw (← q) (o .some) in
               omega arith)
               ∙ omega (arith, none)
-          some (suc m) f = let p = g .standing .place k l own e (omega arith) in place p (decLe i (p .place))
+          some (suc m) f = let p = g .standing .place k l own e (omega arith) in place p (decLe i (p .number))
             where
-              place : (p : PlaceOf queue k) → Dec (i ≤ p .place) → piecesOf after k ≡ min (left os k) (total - ahead h a os k)
+              place : (p : Found (λ j. numberIn (item queue j)) (length queue) k) → Dec (i ≤ p .number) → piecesOf after k ≡ min (left os k) (total - ahead h a os k)
               place p d =
-                  let begin : ahead h a os k ≡ upTo queue (p .place) =
-                  ap (ahead h a os) (sym (p .is)) ∙ g .standing .order (p .place) (p .below) .begin in
+                  let begin : ahead h a os k ≡ upTo queue (p .number) =
+                  ap (ahead h a os) (sym (p .is)) ∙ g .standing .order (p .number) (p .below) .begin in
                   go begin d
                 where
-                  go : ahead h a os k ≡ upTo queue (p .place) → Dec (i ≤ p .place)
+                  go : ahead h a os k ≡ upTo queue (p .number) → Dec (i ≤ p .number)
                       → piecesOf after k ≡ min (left os k) (total - ahead h a os k)
                   go begin (yes far) =
                       so .rest k
-                      (λ j b q. let same = once g j (p .place) (omega (arith, so .so-far .within)) (p .below) (q ∙ sym (p .is)) in omega arith)
-                      ∙ omega (arith, none, used (p .place) far (p .below))
+                      (λ j b q. let same = once g j (p .number) (omega (arith, so .so-far .within)) (p .below) (q ∙ sym (p .is)) in omega arith)
+                      ∙ omega (arith, none, used (p .number) far (p .below))
                   go begin (no near) =
-                      ap (piecesOf after) (sym (p .is)) ∙ so .done h a os s g (p .place) (omega (arith, near))
+                      ap (piecesOf after) (sym (p .is)) ∙ so .done h a os s g (p .number) (omega (arith, near))
                       ∙ omega (arith, begin, ap (left os) (p .is))
 
   -- the total is used up, or the queue ends
   pub handed-enough : total ≤ upto → (h : Heading) (a : Auction) (os : List Standing) (s : Side) → Given h a os s queue
       → HandedTo h a os s total before after
   handed-enough used =
-      handed-all (λ j from to. omega (arith, so .so-far .sum, sum-longer (λ k. amountIn (item queue k)) i j from))
+      handed-all (λ j from to. omega (arith, so .so-far .is, sum-longer (λ k. amountIn (item queue k)) i j from))
 
   pub handed-end : length queue ≤ i → (h : Heading) (a : Auction) (os : List Standing) (s : Side) → Given h a os s queue
       → HandedTo h a os s total before after

@@ -10,9 +10,9 @@ use native.Mathlib.Omega.{arith}
 use lib.Dec.{ltb}
 use lib.ListN.{length}
 use borrow.Author.Tests.{ltb-true, lt-ltb}
-use Rattle.laws.proofs.Orders.{left}
-use Rattle.laws.proofs.Priority.{three}
-use Rattle.laws.proofs.Sums.{sum-longer}
+use Rattle.claims.specs.Orders.{left}
+use Rattle.claims.proofs.Priority.{three}
+use Rattle.claims.proofs.Sums.{sum-longer}
 use Rattle.lines.specs.Keys.{numberIn, wholeIn, amountIn}
 use Rattle.lines.specs.Lines.{upTo}
 use Rattle.rules.proofs.Grid.{both}
@@ -40,7 +40,7 @@ module _ {h : Heading} {a : Auction} {os : List Standing} {s : Side} {queue : Li
       go true e =
           let x = inside h a os s t k e in
           let p = q .place k l (x .own) (x .counts) (omega (arith, x .above, x .below)) in
-          absurd (never (p .place) (p .below) (p .is) x)
+          absurd (never (p .number) (p .below) (p .is) x)
 
   -- the stretch of the order at place j
   stretch-at : (t k j : ℕ) → j < length queue → numberIn (item queue j) ≡ k → Inside h a os s t k
@@ -130,7 +130,7 @@ module _ {queue : List ℕ} {orders total i upto : ℕ} (d : Down queue orders t
       at-last f = let here : suc (i - 1) ≡ i = omega arith in rw (here, ← d .summed) f
 
       pub down-splits : (wholeIn (item queue (i - 1)) && ltb total upto) ≡ true
-          → ReachedFrom queue orders total (record { total = upto - x; orders = i - 1; sum = upto - x })
+          → ReachedFrom queue orders total (record { total = record { 0 = upto - x }; orders = i - 1; sum = record { 0 = upto - x } })
       down-splits whole = record {
         low = omega arith;
         fewer = omega (arith, d .fewer);
@@ -143,7 +143,7 @@ module _ {queue : List ℕ} {orders total i upto : ℕ} (d : Down queue orders t
       }
 
       pub down-stays : (wholeIn (item queue (i - 1)) && ltb total upto) ≡ false
-          → ReachedFrom queue orders total (record { total = total; orders = i; sum = upto })
+          → ReachedFrom queue orders total (record { total = record { 0 = total }; orders = i; sum = record { 0 = upto } })
       down-stays whole = record {
         low = le-refl total;
         fewer = d .fewer;
@@ -157,7 +157,7 @@ module _ {queue : List ℕ} {orders total i upto : ℕ} (d : Down queue orders t
             );
       }
 
-  pub down-all : i ≡ 0 → ReachedFrom queue orders total (record { total = total; orders = 0; sum = upto })
+  pub down-all : i ≡ 0 → ReachedFrom queue orders total (record { total = record { 0 = total }; orders = 0; sum = record { 0 = upto } })
   unfolding sumTo
   down-all first = record {
     low = le-refl total;

@@ -10,10 +10,10 @@ use native.Mathlib.Omega.{arith}
 use lib.Dec.{ltb, eqb}
 use lib.ListN.{length}
 use borrow.Author.Tests.{ltb-true, ltb-false, lt-ltb, le-leb, eq-eqb, ne-eqb}
-use Rattle.laws.proofs.Handed.{ahead-more}
-use Rattle.laws.proofs.Orders.{left, side, el}
-use Rattle.laws.proofs.Priority.{side-sym, side-trans, first-total}
-use Rattle.laws.proofs.Totals.{every-from, or-right, reached-unsplit, largest-is}
+use Rattle.claims.proofs.Handed.{ahead-more}
+use Rattle.claims.specs.Orders.{left, side, el}
+use Rattle.claims.proofs.Priority.{side-sym, side-trans, first-total}
+use Rattle.claims.proofs.Totals.{every-from, or-right, reached-unsplit, largest-is}
 use Rattle.rules.proofs.Grid.{both}
 use Rattle.rules.specs.AuctionPrice.{Auction}
 use Rattle.rules.specs.Fills.{rankedBefore, offered, ahead, share, unsplit, reaches}

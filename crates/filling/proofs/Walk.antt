@@ -7,8 +7,8 @@ use Prim.Native.Nat.{ℕ, _≤_, min}
 use native.Mathlib.Nat.{le-refl}
 use native.Mathlib.Omega.{arith}
 use lib.ListN.{length}
-use Rattle.laws.proofs.Totals.{reaches-none, largest-ok, largest-is}
-use Rattle.lines.proofs.Standing.{GoneBy}
+use Rattle.claims.proofs.Totals.{reaches-none, largest-ok, largest-is}
+use Rattle.lines.proofs.Summing.{GoneBy, gone-by}
 use Rattle.lines.specs.Lines.{upTo}
 use Rattle.rules.proofs.Grid.{both}
 use Rattle.rules.proofs.Scan.{largest-ge}
@@ -28,14 +28,14 @@ most h a os = min (offered h a os Buy) (offered h a os Sell)
 
 -- where the walk stands on a side
 pub record StandsAt (h : Heading) (a : Auction) (os : List Standing) (s : Side) (queue : List ℕ) (r : Reached) : Type 0 where
-  pub lawful : reaches h a os s (r .total) ≡ true
-  pub low : r .total ≤ most h a os
-  pub reached : r .total ≤ upTo queue (r .orders)
+  pub lawful : reaches h a os s (r .total .0) ≡ true
+  pub low : r .total .0 ≤ most h a os
+  pub reached : r .total .0 ≤ upTo queue (r .orders)
 
 pub record Walking (h : Heading) (a : Auction) (os : List Standing) (bids asks : List ℕ) (buy sell : Reached) : Type 0 where
   pub buys : StandsAt h a os Buy bids buy
   pub sells : StandsAt h a os Sell asks sell
-  pub common : (u : ℕ) → u ≤ most h a os → reaches h a os Buy u ≡ true → reaches h a os Sell u ≡ true → (u ≤ buy .total) × (u ≤ sell .total)
+  pub common : (u : ℕ) → u ≤ most h a os → reaches h a os Buy u ≡ true → reaches h a os Sell u ≡ true → (u ≤ buy .total .0) × (u ≤ sell .total .0)
 
 -- a total that a side steps down to is lawful, and no lawful one at or below where it stepped from is larger
 module _ {h : Heading} {a : Auction} {os : List Standing} {s : Side} {queue : List ℕ} {orders total : ℕ} {r : Reached}
@@ -49,19 +49,19 @@ module _ {h : Heading} {a : Auction} {os : List Standing} {s : Side} {queue : Li
         reached = top .1;
       }
 
-  step-most : (u : ℕ) → u ≤ total → reaches h a os s u ≡ true → u ≤ r .total
+  step-most : (u : ℕ) → u ≤ total → reaches h a os s u ≡ true → u ≤ r .total .0
   step-most u low e = rw (f .largest h a os s q enough .0) (largest-ge (reaches h a os s) total u low e)
 
 -- the same of any round whose queues they are
 pub record Walks (bids asks : List ℕ) (buy sell : Reached) : Type 0 where
-  pub bought : GoneBy bids (buy .orders) (buy .sum)
-  pub sold : GoneBy asks (sell .orders) (sell .sum)
+  pub bought : GoneBy bids (buy .orders) (buy .sum .0)
+  pub sold : GoneBy asks (sell .orders) (sell .sum .0)
   pub walking : (h : Heading) (a : Auction) (os : List Standing) → QueueOf h a os Buy bids → QueueOf h a os Sell asks
       → Walking h a os bids asks buy sell
 
 step-gone : {queue : List ℕ} {orders total : ℕ} {r : Reached} → ReachedFrom queue orders total r → orders ≤ length queue
-    → GoneBy queue (r .orders) (r .sum)
-step-gone f few = record { within = omega (arith, f .fewer); sum = f .summed }
+    → GoneBy queue (r .orders) (r .sum .0)
+step-gone {queue} f few = gone-by queue (omega (arith, f .fewer)) (f .summed)
 
 module _ {bids asks : List ℕ} {buy sell : Reached} where
   pub walk-starts : {wanted offered top : ℕ} → wanted ≡ upTo bids (length bids) → offered ≡ upTo asks (length asks)
@@ -83,13 +83,13 @@ module _ {bids asks : List ℕ} {buy sell : Reached} where
 
   module _ {r : Reached} (w : Walks bids asks buy sell) where
     -- a sell total above the buy total goes down to the next at or below it
-    pub sell-steps : buy .total ≤ sell .total → ReachedFrom asks (sell .orders) (buy .total) r → Walks bids asks buy r
+    pub sell-steps : buy .total .0 ≤ sell .total .0 → ReachedFrom asks (sell .orders) (buy .total .0) r → Walks bids asks buy r
     sell-steps above f = record {
       bought = w .bought;
       sold = step-gone f (w .sold .within);
       walking = λ h a os p q.
           let x = w .walking h a os p q in
-          let enough : buy .total ≤ upTo asks (sell .orders) = omega (arith, x .sells .reached) in
+          let enough : buy .total .0 ≤ upTo asks (sell .orders) = omega (arith, x .sells .reached) in
           record {
             buys = x .buys;
             sells = step-stands f q enough (x .buys .low);
@@ -98,13 +98,13 @@ module _ {bids asks : List ℕ} {buy sell : Reached} where
     }
 
     -- and a buy total above the sell total likewise
-    pub buy-steps : sell .total ≤ buy .total → ReachedFrom bids (buy .orders) (sell .total) r → Walks bids asks r sell
+    pub buy-steps : sell .total .0 ≤ buy .total .0 → ReachedFrom bids (buy .orders) (sell .total .0) r → Walks bids asks r sell
     buy-steps above f = record {
       bought = step-gone f (w .bought .within);
       sold = w .sold;
       walking = λ h a os p q.
           let x = w .walking h a os p q in
-          let enough : sell .total ≤ upTo bids (buy .orders) = omega (arith, x .buys .reached) in
+          let enough : sell .total .0 ≤ upTo bids (buy .orders) = omega (arith, x .buys .reached) in
           record {
             buys = step-stands f p enough (x .sells .low);
             sells = x .sells;
@@ -113,12 +113,12 @@ module _ {bids asks : List ℕ} {buy sell : Reached} where
     }
 
   -- where the two meet is the largest common one
-  pub walk-ends : Walks bids asks buy sell → sell .total ≡ buy .total → (h : Heading) (a : Auction) (os : List Standing)
-      → QueueOf h a os Buy bids → QueueOf h a os Sell asks → buy .total ≡ largestTotal h a os
+  pub walk-ends : Walks bids asks buy sell → sell .total .0 ≡ buy .total .0 → (h : Heading) (a : Auction) (os : List Standing)
+      → QueueOf h a os Buy bids → QueueOf h a os Sell asks → buy .total .0 ≡ largestTotal h a os
   unfolding largestTotal
   walk-ends w q h a os p r =
       let x = w .walking h a os p r in
-      largest-is (λ t. reaches h a os Buy t && reaches h a os Sell t) (most h a os) (buy .total) (x .buys .low)
+      largest-is (λ t. reaches h a os Buy t && reaches h a os Sell t) (most h a os) (buy .total .0) (x .buys .low)
       (rw (x .buys .lawful) (rw q at (x .sells .lawful)))
       (λ u above l e.
       let t = both {a = reaches h a os Buy u} e in

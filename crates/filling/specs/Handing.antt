@@ -4,7 +4,7 @@ use mathlib.Core.List.{List}
 use mathlib.Core.Path.{_≡_}
 use Prim.Native.Nat.{ℕ, _≤_, _<_}
 use lib.ListN.{length, take}
-use Rattle.laws.proofs.Orders.{left, side}
+use Rattle.claims.specs.Orders.{left, side}
 use Rattle.lines.specs.Lines.{Bounded, LineOf}
 use Rattle.lines.specs.Pieces.{mostPieces, piecesOf}
 use Rattle.rules.specs.AuctionPrice.{Auction}

@@ -15,8 +15,8 @@ use Rattle.filling.specs.declared.totals.Reached.{Reached}
 -- From a total of the first orders of a queue, r is the largest at or below it that the side can lawfully reach, and a total of as many
 -- orders as r says, with their pieces.
 pub record ReachedFrom (queue : List ℕ) (orders total : ℕ) (r : Reached) : Type 0 where
-  pub low : r .total ≤ total
+  pub low : r .total .0 ≤ total
   pub fewer : r .orders ≤ orders
-  pub summed : r .sum ≡ upTo queue (r .orders)
+  pub summed : r .sum .0 ≡ upTo queue (r .orders)
   pub largest : (h : Heading) (a : Auction) (os : List Standing) (s : Side) → QueueOf h a os s queue → total ≤ upTo queue orders
-      → (r .total ≡ largestTo (reaches h a os s) total) × (r .total ≤ upTo queue (r .orders))
+      → (r .total .0 ≡ largestTo (reaches h a os s) total) × (r .total .0 ≤ upTo queue (r .orders))

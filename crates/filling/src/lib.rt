@@ -18,7 +18,7 @@ ghost use Rattle.filling.specs.Fills.{filledWith};
 ghost use Rattle.filling.specs.Handing.{Given, HandedTo};
 use crate::queue::queue_of;
 use crate::totals::common_total;
-use compare::moved_into;
+use compare::potential_purchase;
 use lines::keys::amount_in;
 use lines::keys::number_in;
 use rules::Auctioned;
@@ -36,50 +36,50 @@ pub struct Filled {
 // The most pieces that an order has.
 const MOST_PIECES: u64 = 0xFFFF_FFFF;
 
-// A number of pieces in 32 bits, in which the pieces of an order have room.
-fn narrow(pieces: u64) -> u32
-    ensures { λ r. ⌜ r ≡ min pieces mostPieces ⌝ }
+// A total as the pieces of one order, which have room in 32 bits.
+fn narrow(total: Total) -> Pieces
+    ensures { λ r. ⌜ r .0 ≡ min (total .0) mostPieces ⌝ }
 {
-    if pieces < MOST_PIECES {
-        pieces as u32
+    if total.0 < MOST_PIECES {
+        Pieces(total.0 as u32)
     } else {
-        MOST_PIECES as u32
+        Pieces(MOST_PIECES as u32)
     }
 }
 
 // What an order of so many pieces gets of a total: what is left after those ahead of it, at most its
 // pieces.
-fn share_of(pieces: u64, ahead: u64, total: u64) -> Pieces
-    ensures { λ r. ⌜ r .0 ≡ min (min pieces (total - ahead)) mostPieces ⌝ }
+fn share_of(pieces: Total, ahead: Total, total: Total) -> Pieces
+    ensures { λ r. ⌜ r .0 ≡ min (min (pieces .0) (total .0 - ahead .0)) mostPieces ⌝ }
 {
-    if total <= ahead {
+    if total.0 <= ahead.0 {
         return Pieces(0);
     }
-    let left = total - ahead;
-    if left < pieces {
-        Pieces(narrow(left))
+    let left = Total(total.0 - ahead.0);
+    if left.0 < pieces.0 {
+        narrow(left)
     } else {
-        Pieces(narrow(pieces))
+        narrow(pieces)
     }
 }
 
 // Hands a total out to the orders of a queue, the first first.
-fn hand_out(queue: &[u64], total: u64, fills: [Pieces; 120]) -> [Pieces; 120]
+fn hand_out(queue: &[u64], total: Total, fills: [Pieces; 120]) -> [Pieces; 120]
     requires { ⌜ length (now queue) ≤ 120 ⌝ }
-    ensures { λ r. ⌜ ((h : heading.Heading) (a : Auction) (os : List standing.Standing) (s : side.Side) → Given h a os s (now (queue .entry)) → HandedTo h a os s total fills r) ⌝ }
+    ensures { λ r. ⌜ ((h : heading.Heading) (a : Auction) (os : List standing.Standing) (s : side.Side) → Given h a os s (now (queue .entry)) → HandedTo h a os s (total .0) fills r) ⌝ }
 {
     let mut given = fills;
-    let mut ahead: u64 = 0;
+    let mut ahead = Total(0);
     let mut i: usize = 0;
     while i < queue.len() {
-        if total <= ahead {
+        if total.0 <= ahead.0 {
             return given;
         }
         let entry = queue[i];
-        let pieces = amount_in(entry);
+        let pieces = Total(amount_in(entry));
         let number = number_in(entry);
         given[number] = share_of(pieces, ahead, total);
-        ahead += pieces;
+        ahead = Total(ahead.0 + pieces.0);
         i += 1;
     }
     given
@@ -96,7 +96,7 @@ fn fills_from(bids: &[u64], asks: &[u64]) -> Filled
     let fills = [none; 120];
     let bought = hand_out(bids, total, fills);
     Filled {
-        total: Total(total),
+        total,
         fills: hand_out(asks, total, bought),
     }
 }
@@ -115,10 +115,7 @@ pub fn fills_of(heading: Heading, auction: Auctioned, bids: &mut [u64], asks: &m
             fills,
         };
     }
-    let lower = heading.lower;
-    let upper = heading.upper;
-    let price = auction.price;
-    let purchase = moved_into(lower, upper, price);
+    let purchase = potential_purchase(heading, auction);
     let buyers = queue_of(heading, Side::Buy, purchase, bids);
     let sellers = queue_of(heading, Side::Sell, purchase, asks);
     fills_from(&bids[..buyers], &asks[..sellers])

@@ -20,35 +20,36 @@ use compare::smaller;
 use lines::keys::amount_in;
 use lines::keys::whole_in;
 use lines::line::pieces_at;
+use rules::Total;
 
 // A total that a side can lawfully reach, how many orders of its queue may get pieces of it, and the pieces of
 // these.
 pub(crate) struct Reached {
-    pub total: u64,
+    pub total: Total,
     pub orders: usize,
-    pub sum: u64,
+    pub sum: Total,
 }
 
 // Whether a total would split an order, where so many pieces stand up to it and the total is above those
 // ahead of it.
-fn splits(entry: u64, upto: u64, total: u64) -> bool
-    ensures { λ r. ⌜ r ≡ (wholeIn entry && ltb total upto) ⌝ }
+fn splits(entry: u64, upto: Total, total: Total) -> bool
+    ensures { λ r. ⌜ r ≡ (wholeIn entry && ltb (total .0) (upto .0)) ⌝ }
 {
-    whole_in(entry) & (total < upto)
+    whole_in(entry) & (total.0 < upto.0)
 }
 
 // The largest total at or below one that a side can lawfully reach, going down from the last order that may
 // get pieces of it.
-fn reached_from(queue: &[u64], orders: usize, sum: u64, total: u64) -> Reached
-    requires { ⌜ (orders ≤ length (now queue)) × (sum ≡ upTo (now queue) orders) ⌝ }
-    ensures { λ r. ⌜ ReachedFrom (now (queue .entry)) orders total r ⌝ }
+fn reached_from(queue: &[u64], orders: usize, sum: Total, total: Total) -> Reached
+    requires { ⌜ (orders ≤ length (now queue)) × (sum .0 ≡ upTo (now queue) orders) ⌝ }
+    ensures { λ r. ⌜ ReachedFrom (now (queue .entry)) orders (total .0) r ⌝ }
 {
     let mut i = orders;
     let mut upto = sum;
     while 0 < i {
         let entry = queue[i - 1];
-        let before = upto - amount_in(entry);
-        if before < total {
+        let before = Total(upto.0 - amount_in(entry));
+        if before.0 < total.0 {
             if splits(entry, upto, total) {
                 return Reached {
                     total: before,
@@ -74,18 +75,18 @@ fn reached_from(queue: &[u64], orders: usize, sum: u64, total: u64) -> Reached
 
 // The largest total that both sides can lawfully reach. The outer loop steps down the lawful buy totals, the
 // inner one the lawful sell totals.
-pub(crate) fn common_total(bids: &[u64], asks: &[u64]) -> u64
+pub(crate) fn common_total(bids: &[u64], asks: &[u64]) -> Total
     requires { ⌜ (length (now bids) ≤ 120) × (length (now asks) ≤ 120) ⌝ }
-    ensures { λ r. ⌜ ((h : Heading) (a : Auction) (os : List Standing) → QueueOf h a os Buy (now (bids .entry)) → QueueOf h a os Sell (now (asks .entry)) → r ≡ largestTotal h a os) ⌝ }
+    ensures { λ r. ⌜ ((h : Heading) (a : Auction) (os : List Standing) → QueueOf h a os Buy (now (bids .entry)) → QueueOf h a os Sell (now (asks .entry)) → r .0 ≡ largestTotal h a os) ⌝ }
 {
     let wanted = pieces_at(bids, 0);
     let offered = pieces_at(asks, 0);
-    let most = smaller(wanted, offered).0;
-    let mut buy = reached_from(bids, bids.len(), wanted.0, most);
-    let mut sell = reached_from(asks, asks.len(), offered.0, most);
+    let most = smaller(wanted, offered);
+    let mut buy = reached_from(bids, bids.len(), wanted, most);
+    let mut sell = reached_from(asks, asks.len(), offered, most);
     'walk: loop {
-        while buy.total <= sell.total {
-            if sell.total == buy.total {
+        while buy.total.0 <= sell.total.0 {
+            if sell.total.0 == buy.total.0 {
                 break 'walk;
             }
             sell = reached_from(asks, sell.orders, sell.sum, buy.total);

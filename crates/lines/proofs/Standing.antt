@@ -4,36 +4,36 @@ use mathlib.Core.Bool.{cond}
 use mathlib.Core.List.{List}
 use mathlib.Core.Logic.{_⊎_, inl, inr}
 use mathlib.Core.Path.{_≡_, refl, sym, _∙_}
-use Prim.Native.Nat.{ℕ, zero, suc, _*_, _+_, _≤_, _<_, zero-le}
+use Prim.Native.Nat.{ℕ, suc, _≤_, _<_, zero-le}
 use native.Mathlib.Nat.{le-refl, le-trans}
-use native.Mathlib.Numerals.{add-one}
 use native.Mathlib.Omega.{arith}
 use lib.Dec.{leb}
 use lib.ListN.{length}
 use borrow.Author.Tests.{le-leb, lt-leb}
-use Rattle.laws.proofs.Reach.{reach, reach-is}
-use Rattle.laws.proofs.Sums.{last-or-before, sum-longer, sum-stops}
+use Rattle.claims.proofs.PiecePlaces.{piece-place-is}
+use Rattle.claims.specs.Places.{piecePlace}
+use Rattle.claims.proofs.Sums.{last-or-before, sum-longer, sum-stops}
 use Rattle.rules.proofs.Grid.{OnGrid}
-use Rattle.rules.proofs.Scan.{by-test}
+use Rattle.rules.proofs.Tests.{by-test}
 use Rattle.rules.proofs.Sums.{sum-same, sum-le}
 use Rattle.rules.specs.Grid.{lastPrice}
 use Rattle.rules.specs.Lists.{sumTo}
 use Rattle.sorting.specs.Sorted.{item}
-use Rattle.lines.specs.Keys.{room, placeIn, amountIn}
+use Rattle.lines.specs.Keys.{placeIn}
 use Rattle.lines.specs.Lines.{Kept, placeAt, upTo, heldAt, Stands}
 
 -- ---- How far a side reaches
 
 module _ {F : ℕ → ℕ} {n : ℕ} {place sum : ℕ → ℕ} (l : Stands F n place sum) where
   -- the order that holds piece v has the place that is reached with v pieces
-  pub held-by : (j v : ℕ) → j < n → sum j < v → v ≤ sum (suc j) → reach F v ≡ place j
+  pub held-by : (j v : ℕ) → j < n → sum j < v → v ≤ sum (suc j) → piecePlace F v ≡ place j
   held-by j v few past most =
-      reach-is F v (place j) (l .placed j few) (λ h. le-trans most (l .stand j few h))
+      piece-place-is F v (place j) (l .placed j few) (λ h. le-trans most (l .stand j few h))
       (λ k far high. omega (arith, l .beyond j k few far high))
 
-  pub held-by-none : (v : ℕ) → sum n < v → reach F v ≡ 0
+  pub held-by-none : (v : ℕ) → sum n < v → piecePlace F v ≡ 0
   held-by-none v past =
-      reach-is F v 0 zero-le (λ h. absurd (omega arith)) (λ k far high. omega (arith, l .all k (far, high)))
+      piece-place-is F v 0 zero-le (λ h. absurd (omega arith)) (λ k far high. omega (arith, l .all k far high))
 
 -- ---- Orders one after the other, each with so many pieces
 
@@ -93,7 +93,7 @@ module _ {entryOf : ℕ → ℕ} {m n : ℕ} {xs : List ℕ} (q : Kept entryOf m
         rw (all (placeIn (item xs j)) (some, placed j l), ← adds-up-to j l)
         (sum-longer (λ i. adds w (placeIn (item xs j)) (item xs i)) (suc j) n l);
     beyond = λ j k l far most. rw (all k (omega arith, most), adds-beyond j k l far) (adds-most k j);
-    all = λ k on. rw (all k on) (adds-most k n);
+    all = λ k low high. rw (all k (low, high)) (adds-most k n);
     none = refl;
   }
     where
@@ -101,29 +101,6 @@ module _ {entryOf : ℕ → ℕ} {m n : ℕ} {xs : List ℕ} (q : Kept entryOf m
       all p on = told p on ∙ sym (q .kept (adds w p) (adds-nothing w p (on .0)))
 
 -- ---- The pieces of a line
-
--- no sum over a line runs out of room
-up-to-room : (line : List ℕ) (i : ℕ) → upTo line i ≤ i * room
-unfolding sumTo
-up-to-room line zero = zero-le
-up-to-room line (suc i) = omega (arith, up-to-room line i)
-
--- the first i orders of a line are gone by, and have so many pieces
-pub record GoneBy (line : List ℕ) (i pieces : ℕ) : Type 0 where
-  pub within : i ≤ length line
-  pub sum : pieces ≡ upTo line i
-
-pub gone-none : (line : List ℕ) → GoneBy line 0 0
-unfolding sumTo
-gone-none line = record { within = zero-le; sum = refl }
-
-module _ {line : List ℕ} {i pieces : ℕ} (so : GoneBy line i pieces) where
-  pub gone-room : pieces ≤ i * room
-  gone-room = omega (arith, so .sum, up-to-room line i)
-
-  pub gone-more : i < length line → {x : ℕ} → x ≡ amountIn (item line i) → GoneBy line (i + 1) (pieces + x)
-  unfolding sumTo
-  gone-more more e = record { within = omega arith; sum = rw (add-one i, so .sum, e) }
 
 -- at place 0 all of them stand
 pub held-all : (line : List ℕ) → heldAt line 0 ≡ upTo line (length line)

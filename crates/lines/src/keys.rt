@@ -4,7 +4,7 @@
 ghost use mathlib.Core.Bool.{cond};
 ghost use mathlib.Core.Path.{_≡_};
 ghost use Prim.Native.Nat.{_≤_, _<_};
-ghost use Rattle.laws.proofs.Places.{placeOf};
+ghost use Rattle.claims.specs.Places.{placeOf};
 ghost use Rattle.rules.specs.Grid.{nth};
 ghost use Rattle.lines.specs.Keys.{room, mostPlaces, entryAt, placeIn, numberIn, wholeIn, amountIn, withAmount, atPlace};
 use compare::greater;

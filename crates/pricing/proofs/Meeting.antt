@@ -9,11 +9,13 @@ use native.Mathlib.Omega.{arith}
 use lib.Dec.{leb, ltb}
 use lib.ListN.{length, List·getD-eq-default}
 use borrow.Author.Tests.{leb-true, leb-false, le-leb, lt-leb, ltb-true, ltb-false, lt-ltb}
-use Rattle.laws.proofs.Crossing.{pieceLimit, greatest, crosses}
-use Rattle.laws.proofs.Reach.{reach}
-use Rattle.laws.proofs.Sums.{last-or-before}
+use Rattle.claims.proofs.Crossing.{crosses}
+use Rattle.claims.specs.Crossing.{pieceLimit, greatest}
+use Rattle.claims.specs.Places.{piecePlace}
+use Rattle.claims.proofs.Sums.{last-or-before}
 use Rattle.lines.proofs.Ordered.{line-placed, line-stands, line-rises}
-use Rattle.lines.proofs.Standing.{held-by, held-by-none, GoneBy, gone-none}
+use Rattle.lines.proofs.Standing.{held-by, held-by-none}
+use Rattle.lines.proofs.Summing.{sum-none, GoneBy, gone-by}
 use Rattle.lines.specs.Keys.{placeIn, amountIn}
 use Rattle.lines.specs.Lines.{LineOf, placeAt, upTo}
 use Rattle.rules.proofs.Grid.{both}
@@ -25,7 +27,7 @@ use Rattle.rules.specs.declared.Side.{Side}
 use Rattle.rules.specs.declared.Side.the-variants.{Buy, Sell}
 use Rattle.rules.specs.declared.Standing.{Standing}
 use Rattle.sorting.specs.Sorted.{item}
-use Rattle.pricing.specs.Meeting.{meetAt, Holds, MetAs}
+use Rattle.pricing.specs.Meeting.{meetAt, HoldsPiece, MetAs}
 
 -- ---- The order that holds a piece
 
@@ -43,24 +45,24 @@ module _ {s : Side} {os : List Standing} {line : List ℕ} (q : LineOf s os line
       go false e = omega (arith, place-none line i (ltb-false i (length line) e))
 
   -- it has the side's limit of that piece
-  limit-held : {i v : ℕ} → Holds line i v → pieceLimit os s v ≡ nth s (placeAt line i)
+  limit-held : {i v : ℕ} → HoldsPiece line i v → pieceLimit os s v ≡ nth s (placeAt line i)
   unfolding pieceLimit
   limit-held {i} {v} at = ap (nth s) (go (last-or-before (omega (arith, at .within))))
     where
-      go : (i ≡ length line) ⊎ (i < length line) → reach (λ k. curve s os (nth s k)) v ≡ placeAt line i
+      go : (i ≡ length line) ⊎ (i < length line) → piecePlace (λ k. curve s os (nth s k)) v ≡ placeAt line i
       go (inl all) = held-by-none (line-stands q) v (rw (← all) (at .past)) ∙ place-none line i (omega arith)
       go (inr few) = held-by (line-stands q) i v few (at .past) (at .most few)
 
   -- the price at the place of the order that holds piece v
-  pub limit-told : {i v place p : ℕ} → Holds line i v → place ≡ placeAt line i → p ≡ nth s place → p ≡ pieceLimit os s v
+  pub limit-told : {i v place p : ℕ} → HoldsPiece line i v → place ≡ placeAt line i → p ≡ nth s place → p ≡ pieceLimit os s v
   limit-told at e f = f ∙ ap (nth s) e ∙ sym (limit-held at)
 
   -- where order i holds the piece after v, and `before` pieces stand before it, piece v is held by it or the order before it
-  pub holds-last : {i v before k : ℕ} → Holds line i (suc v) → (v ≡ 0 → ⊥) → before ≡ upTo line i → k ≡ cond (ltb before v) i (i - 1)
-      → Holds line k v
+  pub holds-last : {i v before k : ℕ} → HoldsPiece line i (suc v) → (v ≡ 0 → ⊥) → before ≡ upTo line i → k ≡ cond (ltb before v) i (i - 1)
+      → HoldsPiece line k v
   holds-last {i} {v} {before} {k} at some sum e = go (ltb before v) refl
     where
-      back : (i : ℕ) → Holds line i (suc v) → v ≤ upTo line i → k ≡ i - 1 → Holds line k v
+      back : (i : ℕ) → HoldsPiece line i (suc v) → v ≤ upTo line i → k ≡ i - 1 → HoldsPiece line k v
       back zero at full last = absurd (omega (arith, some, line-stands q .none))
       back (suc n) at full last =
           let same : k ≡ n = omega arith in
@@ -71,7 +73,7 @@ module _ {s : Side} {os : List Standing} {line : List ℕ} (q : LineOf s os line
             most = λ few. full;
           })
 
-      go : (t : Bool) → ltb before v ≡ t → Holds line k v
+      go : (t : Bool) → ltb before v ≡ t → HoldsPiece line k v
       go true f =
           let same : k ≡ i = e ∙ rw f in
           rw same
@@ -99,7 +101,7 @@ module _ {line : List ℕ} {i before : ℕ} (so : GoneBy line i before) where
     -- c counts the pieces up to order i
     next : c ≡ upTo line (suc i)
     unfolding sumTo
-    next = omega (arith, p .upto, so .sum)
+    next = omega (arith, p .upto, so .is)
 
     on : leb c d ≡ true → i + x ≡ suc i
     on e = let one : x ≡ 1 = p .one ∙ rw e in omega arith
@@ -111,18 +113,18 @@ module _ {line : List ℕ} {i before : ℕ} (so : GoneBy line i before) where
     passed-more = go (leb c d) refl
       where
         go : (t : Bool) → leb c d ≡ t → GoneBy line (i + x) after
-        go true e = rw (on e) (record { within = few; sum = p .sum ∙ rw e next })
-        go false e = rw (stays e) (record { within = so .within; sum = p .sum ∙ rw e (so .sum) })
+        go true e = rw (on e) (gone-by line few (p .sum ∙ rw e next))
+        go false e = rw (stays e) (gone-by line (so .within) (p .sum ∙ rw e (so .is)))
 
-    module _ {v w : ℕ} (at : Holds line i (suc v)) (least : w ≡ min c d) where
+    module _ {v w : ℕ} (at : HoldsPiece line i (suc v)) (least : w ≡ min c d) where
       -- of the w pieces that both sides then have, order i holds the last, and the order that is then reached the next one
-      holds-common : v < w → Holds line i w
+      holds-common : v < w → HoldsPiece line i w
       holds-common more = record { within = at .within; past = omega (arith, at .past); most = λ f. omega (arith, next) }
 
-      holds-more : {s : Side} {os : List Standing} → LineOf s os line → v < w → Holds line (i + x) (suc w)
+      holds-more : {s : Side} {os : List Standing} → LineOf s os line → v < w → HoldsPiece line (i + x) (suc w)
       holds-more q more = go (leb c d) refl
         where
-          go : (t : Bool) → leb c d ≡ t → Holds line (i + x) (suc w)
+          go : (t : Bool) → leb c d ≡ t → HoldsPiece line (i + x) (suc w)
           go true e =
               let all : w ≡ c = omega (arith, leb-true c d e) in
               rw (on e)
@@ -177,21 +179,21 @@ module _ (bids : List ℕ) (i : ℕ) (asks : List ℕ) (j : ℕ) where
 -- so far v pieces meet, and orders i and j hold the next one
 pub record Meeting (h : Heading) (os : List Standing) (bids : List ℕ) (i : ℕ) (asks : List ℕ) (j v : ℕ) : Type 0 where
   pub carried : v ≤ greatest h os
-  pub buy : Holds bids i (suc v)
-  pub sell : Holds asks j (suc v)
+  pub buy : HoldsPiece bids i (suc v)
+  pub sell : HoldsPiece asks j (suc v)
 
 module _ (h : Heading) (os : List Standing) {bids asks : List ℕ} (b : LineOf Buy os bids) (s : LineOf Sell os asks) where
   meeting-none : Meeting h os bids 0 asks 0 0
   meeting-none = record { carried = zero-le; buy = first b; sell = first s }
     where
-      first : {s : Side} {line : List ℕ} → LineOf s os line → Holds line 0 1
+      first : {s : Side} {line : List ℕ} → LineOf s os line → HoldsPiece line 0 1
       first q = record {
         within = zero-le;
         past = omega (arith, line-stands q .none);
         most = λ few. omega (arith, line-rises q 0 few);
       }
 
-  module _ {i j v : ℕ} (buy : Holds bids i v) (sell : Holds asks j v) where
+  module _ {i j v : ℕ} (buy : HoldsPiece bids i v) (sell : HoldsPiece asks j v) where
     -- v pieces are carried somewhere just where the two orders that hold piece v meet
     crossing : leb v (greatest h os) ≡ leb (lastPrice + 1 - placeAt asks j) (placeAt bids i)
     crossing = rw (← limit-held b buy, ← limit-held s sell) (crosses h os v)
@@ -221,7 +223,7 @@ pub record Walked (bids : List ℕ) (i bought : ℕ) (asks : List ℕ) (j sold v
   pub met : (h : Heading) (os : List Standing) → LineOf Buy os bids → LineOf Sell os asks → Meeting h os bids i asks j v
 
 pub walked-none : (bids asks : List ℕ) → Walked bids 0 0 asks 0 0 0
-walked-none bids asks = record { buy = gone-none bids; sell = gone-none asks; met = λ h os b s. meeting-none h os b s }
+walked-none bids asks = record { buy = sum-none _ _; sell = sum-none _ _; met = λ h os b s. meeting-none h os b s }
 
 module _ {bids : List ℕ} {i bought : ℕ} {asks : List ℕ} {j sold v : ℕ} (k : Walked bids i bought asks j sold v) where
   pub walked-more : Both bids i asks j → {m n w x y b s : ℕ} → m ≡ amountIn (item bids i) → n ≡ amountIn (item asks j)
@@ -262,7 +264,7 @@ module _ {bids : List ℕ} {i bought : ℕ} {asks : List ℕ} {j sold v : ℕ} (
       record {
         volume = omega (arith, m .carried, none-carries h os b s (m .buy) (m .sell) (apart bids i asks j b s e));
         buy = m .buy;
-        bought = k .buy .sum;
+        bought = k .buy .is;
         sell = m .sell;
-        sold = k .sell .sum;
+        sold = k .sell .is;
       }

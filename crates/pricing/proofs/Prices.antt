@@ -6,8 +6,9 @@ use mathlib.Core.Path.{_≡_, sym, ap, _∙_}
 use Prim.Native.Nat.{ℕ, suc, _≤_, _<_, max, min}
 use native.Mathlib.Omega.{arith}
 use borrow.Author.Tests.{le-leb, lt-leb}
-use Rattle.laws.proofs.Crossing.{pieceLimit, greatest, endWithin, balanced, crossedAt, auction-crossed, auction-uncrossed}
-use Rattle.laws.proofs.Spans.{end-some, end-none}
+use Rattle.claims.proofs.Crossing.{auction-crossed, auction-uncrossed}
+use Rattle.claims.specs.Crossing.{pieceLimit, greatest, endWithin, balanced, crossedAt}
+use Rattle.claims.proofs.Spans.{end-some, end-none}
 use Rattle.rules.specs.AuctionPrice.{Auction, uncrossed, auction}
 use Rattle.rules.specs.Grid.{lastPrice}
 use Rattle.rules.specs.Sheet.{D, H, I}

@@ -5,7 +5,7 @@ use mathlib.Core.Path.{_≡_}
 use Prim.Native.Nat.{ℕ, suc, _+_, _≤_, _<_}
 use lib.Dec.{ltb}
 use lib.ListN.{length}
-use Rattle.laws.proofs.Crossing.{greatest}
+use Rattle.claims.specs.Crossing.{greatest}
 use Rattle.lines.specs.Lines.{placeAt, upTo}
 use Rattle.rules.specs.Grid.{lastPrice}
 use Rattle.rules.specs.declared.Heading.{Heading}
@@ -19,7 +19,7 @@ meetAt bids i asks j =
 
 -- Order i of a line holds piece v: the orders before it have fewer, with it they have as many. Where v is more than all have, i is the
 -- place after the last.
-pub record Holds (line : List ℕ) (i v : ℕ) : Type 0 where
+pub record HoldsPiece (line : List ℕ) (i v : ℕ) : Type 0 where
   pub within : i ≤ length line
   pub past : upTo line i < v
   pub most : i < length line → v ≤ upTo line (suc i)
@@ -27,7 +27,7 @@ pub record Holds (line : List ℕ) (i v : ℕ) : Type 0 where
 -- The two lines meet for the greatest volume, and the orders reached hold the next piece.
 pub record MetAs (h : Heading) (os : List Standing) (bids asks : List ℕ) (r : Met) : Type 0 where
   pub volume : r .volume ≡ greatest h os
-  pub buy : Holds bids (r .buys) (suc (r .volume))
+  pub buy : HoldsPiece bids (r .buys) (suc (r .volume))
   pub bought : r .bought ≡ upTo bids (r .buys)
-  pub sell : Holds asks (r .sells) (suc (r .volume))
+  pub sell : HoldsPiece asks (r .sells) (suc (r .volume))
   pub sold : r .sold ≡ upTo asks (r .sells)

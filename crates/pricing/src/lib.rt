@@ -10,7 +10,7 @@ ghost use mathlib.Core.List.{List};
 ghost use mathlib.Core.Path.{_≡_};
 ghost use Prim.Native.Nat.{_≤_};
 ghost use lib.ListN.{length};
-ghost use Rattle.laws.proofs.Crossing.{endWithin, balanced, crossedAt};
+ghost use Rattle.claims.specs.Crossing.{endWithin, balanced, crossedAt};
 ghost use Rattle.lines.specs.Lines.{LineOf};
 ghost use Rattle.rules.specs.AuctionPrice.{auctioned, uncrossed, auction};
 ghost use Rattle.rules.specs.declared.Side.the-variants.{Buy, Sell};

@@ -1,25 +1,28 @@
 -- What is known of every accepted sheet: its prices are on the grid, its quantities from 1 to 1,000,000, its length fits.
--- In an accepted sheet no row of the table arises; each row that does not arise is one of the facts below.
-use mathlib.Core.Bool.{Bool, true, false, not, _&&_, _||_, cond}
-use mathlib.Core.List.{List, [], _++_}
-use mathlib.Core.Path.{_≡_}
-use Prim.Native.Nat.{ℕ, zero, suc, _+_, _*_, _≤_, _<_}
+-- In an accepted sheet no row of the table arises; each row that does not arise is one of the facts below. Of a call on it only the
+-- call's own rows are left; a refused sheet refuses every call.
+use mathlib.Core.Bool.{Bool, true, false, not, _&&_, _||_}
+use mathlib.Core.List.{List, [], _∷_, _++_}
+use mathlib.Core.Path.{_≡_, _∙_}
+use Prim.Native.Nat.{ℕ, zero, suc, _+_, _≤_, _<_}
 use native.Mathlib.Decide.{decLe}
 use native.Mathlib.Omega.{arith}
-use lib.Dec.{leb, eqb}
+use lib.Dec.{leb, ltb, eqb}
 use lib.ListN.{length, getD}
-use borrow.Author.Tests.{leb-true, ltb-true, eqb-true, not-false}
-use Rattle.rules.specs.Answers.{gives}
+use borrow.Author.Tests.{leb-true, ltb-true, lt-ltb, le-ltb, eqb-true, not-false}
+use Rattle.rules.specs.Answers.{gives, refuses, Check, row, downwards}
+use Rattle.rules.specs.Calls.{onSheet}
 use Rattle.rules.specs.Grid.{onGrid}
-use Rattle.rules.specs.Sheet.{headingOf, pricesOnGrid, bandEncloses, lengthFits, mostOrders, termsAllowed, quantityAllowed, ignoredAllowed, termsOf, orderFrom, orderAt, ordersOf, headingChecks, orderChecks, ordersChecks, sheetChecks, checkSheet}
+use Rattle.rules.specs.Sheet.{orderPlace, headingOf, pricesOnGrid, bandEncloses, lengthFits, mostOrders, termsAllowed, quantityAllowed, ignoredAllowed, termsOf, orderFrom, orderAt, ordersOf, headingChecks, orderChecks, ordersChecks, sheetChecks, checkSheet, AcceptedSheet}
 use Rattle.rules.specs.declared.Heading.{Heading}
 use Rattle.rules.specs.declared.Order.{Order}
 use Rattle.rules.specs.declared.Terms.{Terms}
 use Rattle.rules.specs.declared.Terms.the-variants.{WithoutLimit, Limited, Stepper}
 use Rattle.rules.specs.declared.Word.{Word}
-use Rattle.rules.proofs.Downwards.{Clear, given-clear, clear-row, clear-rest, clear-left, clear-right}
+use Rattle.rules.proofs.Downwards.{Clear, Stops, downwards-append, given-clear, refused-stops, clear-row, clear-rest, clear-left, clear-right}
 use Rattle.rules.proofs.Grid.{OnGrid, both, on-grid}
 use Rattle.rules.proofs.Lists.{getD-listed}
+use Rattle.rules.proofs.Tests.{by-test}
 
 pub record SoundHeading (h : Heading) : Type 0 where
   pub lower : OnGrid (h .lower .0)
@@ -43,7 +46,7 @@ pub record SoundOrder (o : Order) : Type 0 where
 
 pub record SoundSheet (ws : List ℕ) : Type 0 where
   pub heading : SoundHeading (headingOf ws)
-  pub words : length ws ≡ 5 + 3 * headingOf ws .count
+  pub words : length ws ≡ orderPlace (headingOf ws .count)
   pub orders : (k : ℕ) (d : Order) → k < headingOf ws .count → SoundOrder (getD (ordersOf ws) k d)
 
 -- the band runs from D to H
@@ -70,7 +73,7 @@ sound-heading h grid encloses few =
 
 -- rows 3 and 4 of a heading that passes, and its length
 pub heading-passes : (ws : List ℕ) → Clear (headingChecks ws)
-    → SoundHeading (headingOf ws) × (length ws ≡ 5 + 3 * headingOf ws .count)
+    → SoundHeading (headingOf ws) × (length ws ≡ orderPlace (headingOf ws .count))
 unfolding headingChecks lengthFits
 heading-passes ws p =
     let after-1 = clear-rest _ _ p in
@@ -84,15 +87,17 @@ sound-terms : (disposition limit ignored : ℕ) → termsAllowed disposition lim
     → SoundTerms (termsOf disposition limit ignored)
 unfolding termsAllowed ignoredAllowed termsOf
 sound-terms disposition limit ignored allowed few =
-    go (eqb disposition 2) (eqb limit 0) (both {a = leb disposition 2} allowed .1) (leb-true _ _ (both {a = leb ignored 1000000} few .0))
+    let told = both {a = leb disposition 2} allowed .1 in
+    let most = leb-true _ _ (both {a = leb ignored 1000000} few .0) in
+    by-test SoundTerms (eqb disposition 2) (λ e. (on-grid limit (barred e told), most))
+    (λ e. by-test SoundTerms (eqb limit 0) (λ f. tt) (λ f. on-grid limit (rw f at told)))
   where
-    go : (stepper none : Bool) → (none && not stepper || onGrid limit) ≡ true → ignored ≤ 1000000
-        → SoundTerms (cond stepper (Stepper (record { 0 = limit }) (record { 0 = ignored }))
-        (cond none (WithoutLimit (eqb disposition 1)) (Limited (record { 0 = limit }) (eqb disposition 1))))
-    go true true e g = (on-grid limit e, g)
-    go true false e g = (on-grid limit e, g)
-    go false true e g = tt
-    go false false e g = on-grid limit e
+    barred : eqb disposition 2 ≡ true → (eqb limit 0 && not (eqb disposition 2) || onGrid limit) ≡ true → onGrid limit ≡ true
+    barred e = rw e (go (eqb limit 0))
+      where
+        go : (none : Bool) → (none && false || onGrid limit) ≡ true → onGrid limit ≡ true
+        go true told = told
+        go false told = told
 
 -- rows 6 to 8 of an order that passes
 sound-order : (k : ℕ) (a b c : Word) → Clear (orderChecks k a b c) → SoundOrder (orderFrom a b c)
@@ -120,7 +125,7 @@ sound-orders ws (suc n) p k h = go (sound-orders ws n (clear-left _ _ p) k) (dec
         let e : n ≡ k = omega (arith, l) in
         rw e at (sound-order n _ _ _ (clear-right (ordersChecks ws n) _ p))
 
-pub accepted-sound : (ws : List ℕ) → checkSheet ws ≡ gives [] → SoundSheet ws
+pub accepted-sound : (ws : List ℕ) → AcceptedSheet ws → SoundSheet ws
 unfolding checkSheet sheetChecks ordersOf
 accepted-sound ws e =
     let p = given-clear (headingChecks ws ++ ordersChecks ws (headingOf ws .count)) [] e in
@@ -131,3 +136,30 @@ accepted-sound ws e =
       words = h .1;
       orders = λ k d l. rw (getD-listed (orderAt ws) (headingOf ws .count) k d l) (sound-orders ws (headingOf ws .count) rest k l);
     }
+
+-- ---- Calls on a sheet
+
+-- of an accepted sheet only the call's own rows are left
+pub own-rows : (ws : List ℕ) → AcceptedSheet ws → (own : List Check) (vs : List ℕ) → onSheet ws own vs ≡ downwards own (gives vs)
+unfolding checkSheet
+own-rows ws accepted own vs =
+    let clear : Clear (sheetChecks ws) = given-clear (sheetChecks ws) [] accepted in
+    downwards-append (sheetChecks ws) own (gives vs) ∙ clear .hands-on _
+
+-- a refused sheet refuses the call, whatever its rows
+pub sheet-refuses : (ws : List ℕ) {n k : ℕ} → checkSheet ws ≡ refuses n k → (own : List Check) (vs : List ℕ)
+    → onSheet ws own vs ≡ refuses n k
+unfolding checkSheet
+sheet-refuses ws {n} {k} refused own vs =
+    let stops : Stops (sheetChecks ws) n k = refused-stops (sheetChecks ws) [] refused in
+    downwards-append (sheetChecks ws) own (gives vs) ∙ stops .refuses-all _
+
+-- a call that is lent a space has one row: whether the space has the words that it needs
+module _ (ws : List ℕ) (accepted : AcceptedSheet ws) (vs : List ℕ) {needed size : ℕ} where
+  pub enough-words : needed ≤ size → onSheet ws (row 10 (ltb size needed) ∷ []) vs ≡ gives vs
+  unfolding downwards
+  enough-words enough = own-rows ws accepted (row 10 (ltb size needed) ∷ []) vs ∙ rw (le-ltb size needed enough)
+
+  pub too-few-words : size < needed → onSheet ws (row 10 (ltb size needed) ∷ []) vs ≡ refuses 10 0
+  unfolding downwards
+  too-few-words few = own-rows ws accepted (row 10 (ltb size needed) ∷ []) vs ∙ rw (lt-ltb size needed few)

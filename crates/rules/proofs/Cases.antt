@@ -13,13 +13,14 @@ use Rattle.rules.specs.Answers.{Answer, gives, refuses, downwards}
 use Rattle.rules.specs.AuctionPrice.{level, uncrossed, auctionBy}
 use Rattle.rules.specs.Band.{bandStands, indicativePrice, nextUpper, nextLower, nextBandFor, percentOf, nextBand, widenedUpper, widenedLower, widenedFor, widenedBand}
 use Rattle.rules.specs.Calls.{answerBy, answer, wordsGiven}
-use Rattle.rules.specs.Cases.{Case, AllHold, documentCases, furtherCases, listing, listingResult, AllPrint, printings}
+use Rattle.rules.specs.Cases.{Case, AllHold, documentCases, furtherCases, listing, listingResult, ListingSaid, AllPrint, printings}
 use Rattle.rules.specs.Fills.{eligible, firstOf, total, offered, ahead, share, reaches, largestTotal, fillsOf}
 use Rattle.rules.specs.Grid.{onGrid, movedInto}
-use Rattle.rules.specs.Limits.{piecesAt, enteredLimit, entered, stepped, limitInForce, standingBy}
+use Rattle.rules.specs.Limits.{standing, piecesAt, enteredLimit, entered, stepped, limitInForce, standingBy}
 use Rattle.rules.specs.Listing.{inputFits, wordIn, sheetIn, wordLine, wordLines, figuresIn, figures, refusalLine, printedAnswer, programAnswer}
 use Rattle.rules.specs.Lists.{listed, sumTo, everyTo, largestTo}
-use Rattle.rules.specs.Opening.{roundAt, firstStart, after, goesOn, endingAfter, roundsFrom, roundWords, roundsWords, endingOf, resultWords, openingBy, openingWords}
+use Rattle.rules.specs.Opening.{settled, firstStart, after, goesOn, endingAfter, roundsFrom, roundWords, roundsWords, endingOf, resultWords, openingBy, openingWords}
+use Rattle.rules.specs.Result.{roundSaid, startSaid, standingSaid}
 use Rattle.rules.specs.Sheet.{headingKinds, headingFrom, headingOf, pricesOnGrid, bandEncloses, lengthFits, orderKinds, termsAllowed, quantityAllowed, ignoredAllowed, sideOf, termsOf, orderFrom, orderAt, ordersOf, headingChecks, orderChecks, ordersChecks, sheetChecks, checkSheet}
 
 -- a test of two answers, and what it tells
@@ -65,11 +66,16 @@ all-same (c ∷ cs) e =
 
 -- P1–P12 hold, and so do the further cases
 pub cases-hold : AllHold documentCases × AllHold furtherCases
-unfolding allSame same sameNumbers documentCases furtherCases quickAnswer quickRound limitEnds levelEnds answerBy downwards headingKinds headingFrom headingOf pricesOnGrid bandEncloses lengthFits orderKinds termsAllowed quantityAllowed ignoredAllowed sideOf termsOf orderFrom orderAt ordersOf headingChecks orderChecks ordersChecks sheetChecks checkSheet onGrid movedInto listed sumTo everyTo largestTo piecesAt enteredLimit entered stepped limitInForce standingBy level uncrossed auctionBy eligible firstOf total offered ahead share reaches largestTotal fillsOf roundAt firstStart after goesOn endingAfter roundsFrom roundWords roundsWords endingOf resultWords openingBy bandStands indicativePrice nextUpper nextLower nextBandFor percentOf nextBand widenedUpper widenedLower widenedFor widenedBand
+unfolding allSame same sameNumbers documentCases furtherCases quickAnswer quickRound limitEnds levelEnds answerBy downwards headingKinds headingFrom headingOf pricesOnGrid bandEncloses lengthFits orderKinds termsAllowed quantityAllowed ignoredAllowed sideOf termsOf orderFrom orderAt ordersOf headingChecks orderChecks ordersChecks sheetChecks checkSheet onGrid movedInto listed sumTo everyTo largestTo piecesAt enteredLimit entered stepped limitInForce standingBy level uncrossed auctionBy eligible firstOf total offered ahead share reaches largestTotal fillsOf settled firstStart after goesOn endingAfter roundsFrom roundWords roundsWords endingOf resultWords openingBy bandStands indicativePrice nextUpper nextLower nextBandFor percentOf nextBand widenedUpper widenedLower widenedFor widenedBand
 cases-hold = (
   all-same documentCases refl,
   all-same furtherCases refl,
 )
+
+-- what the listing's words say
+pub listing-said : ListingSaid
+unfolding roundSaid startSaid standingSaid standing standingBy total after firstStart headingFrom headingOf sideOf termsOf orderFrom orderAt ordersOf listed sumTo
+listing-said = record { rounds = refl; first = refl; second = refl; pieces = refl; bought = refl }
 
 -- ---- The program's text
 

@@ -5,18 +5,18 @@ use mathlib.Core.List.{List, [], _∷_, _++_}
 use mathlib.Core.Path.{_≡_, refl}
 use Prim.Native.Nat.{ℕ}
 use native.Mathlib.Omega.{arith}
-use Rattle.rules.specs.Answers.{Answer, gives, refuses, Check, downwards}
+use Rattle.rules.specs.Answers.{Answer, gives, refuses, Check, downwards, verdict}
 
 -- a table hands every answer on
 pub record Clear (cs : List Check) : Type 0 where
   pub hands-on : (a : Answer) → downwards cs a ≡ a
 
 -- a table refuses with these numbers, whatever the answer would be
-pub record Stops (cs : List Check) (number order : ℕ) : Type 0 where
-  pub refuses-all : (a : Answer) → downwards cs a ≡ refuses number order
+pub record Stops (cs : List Check) (number place : ℕ) : Type 0 where
+  pub refuses-all : (a : Answer) → downwards cs a ≡ refuses number place
 
 -- building a table's fate row by row
-pub here : {c : Check} {cs : List Check} → c .arises ≡ true → Stops (c ∷ cs) (c .number) (c .order)
+pub here : {c : Check} {cs : List Check} → c .arises ≡ true → Stops (c ∷ cs) (c .number) (c .place)
 unfolding downwards
 here e = record { refuses-all = λ a. rw e }
 
@@ -50,15 +50,22 @@ pub stops-after : {cs ds : List Check} {n k : ℕ} → Clear cs → Stops ds n k
 stops-after {cs} {ds} {n} {k} p q =
     record { refuses-all = λ a. rw (downwards-append cs ds a, q .refuses-all a) (p .hands-on (refuses n k)) }
 
+-- what such tables say alone
+pub says-nothing : (cs : List Check) → Clear cs → verdict cs ≡ gives []
+says-nothing cs p = p .hands-on (gives [])
+
+pub says-refused : (cs : List Check) {n k : ℕ} → Stops cs n k → verdict cs ≡ refuses n k
+says-refused cs p = p .refuses-all (gives [])
+
 -- where something was given, nothing arose
 pub given-clear : (cs : List Check) (vs : List ℕ) {ws : List ℕ} → downwards cs (gives vs) ≡ gives ws → Clear cs
 unfolding downwards
 given-clear [] vs e = nothing-left
 given-clear (c ∷ cs) vs {ws} e = record { hands-on = go (c .arises) e (given-clear cs vs) }
   where
-    go : (t : Bool) → cond t (refuses (c .number) (c .order)) (downwards cs (gives vs)) ≡ gives ws
+    go : (t : Bool) → cond t (refuses (c .number) (c .place)) (downwards cs (gives vs)) ≡ gives ws
         → (downwards cs (gives vs) ≡ gives ws → Clear cs)
-        → (a : Answer) → cond t (refuses (c .number) (c .order)) (downwards cs a) ≡ a
+        → (a : Answer) → cond t (refuses (c .number) (c .place)) (downwards cs a) ≡ a
     go true e rest a = let z : _≡_ {A = ℕ} 0 1 = cc in absurd (omega arith)
     go false e rest a = rest e .hands-on a
 
@@ -68,9 +75,9 @@ unfolding downwards
 refused-stops [] vs e = let z : _≡_ {A = ℕ} 0 1 = cc in absurd (omega arith)
 refused-stops (c ∷ cs) vs {n} {k} e = record { refuses-all = go (c .arises) e (refused-stops cs vs) }
   where
-    go : (t : Bool) → cond t (refuses (c .number) (c .order)) (downwards cs (gives vs)) ≡ refuses n k
+    go : (t : Bool) → cond t (refuses (c .number) (c .place)) (downwards cs (gives vs)) ≡ refuses n k
         → (downwards cs (gives vs) ≡ refuses n k → Stops cs n k)
-        → (a : Answer) → cond t (refuses (c .number) (c .order)) (downwards cs a) ≡ refuses n k
+        → (a : Answer) → cond t (refuses (c .number) (c .place)) (downwards cs a) ≡ refuses n k
     go true e rest a = e
     go false e rest a = rest e .refuses-all a
 
@@ -80,7 +87,7 @@ module _ (c : Check) (cs : List Check) (p : Clear (c ∷ cs)) where
   unfolding downwards
   clear-row = go (c .arises) (p .hands-on (gives []))
     where
-      go : (t : Bool) → cond t (refuses (c .number) (c .order)) (downwards cs (gives [])) ≡ gives [] → t ≡ false
+      go : (t : Bool) → cond t (refuses (c .number) (c .place)) (downwards cs (gives [])) ≡ gives [] → t ≡ false
       go true e = let z : _≡_ {A = ℕ} 0 1 = cc in absurd (omega arith)
       go false e = refl
 
@@ -89,7 +96,7 @@ module _ (c : Check) (cs : List Check) (p : Clear (c ∷ cs)) where
   clear-rest = record { hands-on = λ a. go (c .arises) clear-row a (p .hands-on a) }
     where
       go : (t : Bool) → t ≡ false → (a : Answer)
-          → cond t (refuses (c .number) (c .order)) (downwards cs a) ≡ a → downwards cs a ≡ a
+          → cond t (refuses (c .number) (c .place)) (downwards cs a) ≡ a → downwards cs a ≡ a
       go true e a q = let z : _≡_ {A = ℕ} 0 1 = cc in absurd (omega arith)
       go false e a q = q
 

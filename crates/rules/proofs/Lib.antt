@@ -2,6 +2,7 @@
 pub mod Tests
 pub mod Grid
 pub mod Lists
+pub mod Painting
 pub mod Downwards
 pub mod Accepted
 pub mod Sums

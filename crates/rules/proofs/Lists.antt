@@ -1,19 +1,14 @@
--- Laws of listed values: equal ones, a function of them, their number, the value at a place, a list of such values, and an array of m places that a loop fills from the front.
-use mathlib.Core.List.{List, [], _∷_, _++_, map, map-append, append-assoc}
+-- Laws of listed values: a function of them, their number, the value at a place, and a list of such values.
+use mathlib.Core.List.{List, [], _∷_, _++_, map, map-append}
 use mathlib.Core.Path.{_≡_, refl, sym, ap, _∙_}
 use Prim.Native.Nat.{ℕ, zero, suc, _+_, _-_, _≤_, _<_}
 use native.Mathlib.Decide.{decLe}
 use native.Mathlib.Numerals.{add-one}
 use native.Mathlib.Omega.{arith}
-use lib.ListN.{length, getD, take, set, replicate, length-append, length-take, List·getD-append}
-use lib.Seq.{set-at, getD-at, getD-take, ext-getD}
+use lib.ListN.{length, getD, take, length-append, length-take, List·getD-append}
+use lib.Seq.{getD-at, getD-take, ext-getD}
 use Rattle.rules.specs.Answers.{firstWords}
 use Rattle.rules.specs.Lists.{listed}
-
-pub listed-same : {A : Type 0} (f g : ℕ → A) (n : ℕ) → ((j : ℕ) → j < n → f j ≡ g j) → listed f n ≡ listed g n
-unfolding listed
-listed-same f g zero same = refl
-listed-same f g (suc n) same = rw (listed-same f g n (λ j l. same j (omega arith)), same n (omega arith))
 
 pub map-listed : {A B : Type 0} (g : A → B) (f : ℕ → A) (n : ℕ) → map g (listed f n) ≡ listed (λ k. g (f k)) n
 unfolding listed
@@ -44,27 +39,6 @@ module _ {A : Type 0} (f : ℕ → A) where
   listed-is n d xs each same =
       ext-getD d (listed f n) xs (length-listed n ∙ sym each)
       (λ k l. let own : k < n = omega (arith, length-listed n) in getD-listed n k d own ∙ same k own)
-
-  -- an array of m places: the first n are f's, the others hold x
-  abbrev pub filled : A → ℕ → ℕ → List A
-  filled x m n = listed f n ++ replicate (m - n) x
-
-  pub filled-none : (x : A) (m : ℕ) → replicate m x ≡ filled x m 0
-  unfolding listed
-  filled-none x m = let e : m ≡ m - 0 = omega arith in ap (λ (k : ℕ). replicate k x) e
-
-  pub filled-more : (x : A) (m n : ℕ) → n < m → set (filled x m n) n (f n) ≡ filled x m (n + 1)
-  unfolding listed
-  filled-more x m n h =
-      let e : m - n ≡ suc (m - (n + 1)) = omega arith in
-      rw (e, add-one n)
-      (set-at (listed f n) x (replicate (m - suc n) x) (f n) n (length-listed n)
-      ∙ sym (append-assoc (listed f n) (f n ∷ []) (replicate (m - suc n) x)))
-
-  pub filled-at : (x : A) (m n i : ℕ) (d : A) → i < n → getD (filled x m n) i d ≡ f i
-  filled-at x m n i d h =
-      let e : length (listed f n) ≡ n = length-listed n in
-      List·getD-append (listed f n) (replicate (m - n) x) d i (omega arith) ∙ getD-listed n i d h
 
 -- ---- The first words of a space
 

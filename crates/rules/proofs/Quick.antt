@@ -1,5 +1,5 @@
 -- The rules by the limits alone: what the rules answer, with each scan of the grid replaced by a look at the limits. It
--- computes in no time, and the law of the scans makes it equal. No rule is repeated here, only how a round is put together.
+-- computes in no time, and the law of the scans makes it equal. No rule is repeated here.
 use mathlib.Core.List.{List}
 use mathlib.Core.Path.{_≡_, ap, _∙_, fun-ext}
 use Prim.Native.Nat.{ℕ}
@@ -9,7 +9,7 @@ use Rattle.rules.specs.AuctionPrice.{Auction, level, auctionBy, auction}
 use Rattle.rules.specs.Calls.{Call, firstStanding, answerBy, answer}
 use Rattle.rules.specs.Grid.{Scan}
 use Rattle.rules.specs.Limits.{entered, rivalPieces, standingBy, standing}
-use Rattle.rules.specs.Opening.{Start, Round, roundAt, roundOf, firstStart}
+use Rattle.rules.specs.Opening.{Start, Round, roundBy, roundFrom, firstStart}
 use Rattle.rules.specs.Sheet.{headingOf, ordersOf}
 use Rattle.rules.specs.declared.Heading.{Heading}
 use Rattle.rules.specs.declared.Order.{Order}
@@ -41,18 +41,16 @@ quick-auction h last os =
 abbrev pub quickFirst : List ℕ → List Standing
 quickFirst ws = quickStanding (headingOf ws) (ordersOf ws) (firstStart ws .remaining)
 
-abbrev pub quickOver : Heading → ℕ → List Standing → Round
-quickOver h last os = roundAt h os (quickAuction h last os)
-
 unfoldable pub quickRound : List ℕ → Start → Round
-quickRound ws s = quickOver (headingOf ws) (s .last) (quickStanding (headingOf ws) (ordersOf ws) (s .remaining))
+quickRound ws s = roundBy quickStanding quickAuction ws s
 
-pub quick-round : (ws : List ℕ) (s : Start) → roundOf ws s ≡ quickRound ws s
-unfolding roundOf quickRound
+pub quick-round : (ws : List ℕ) (s : Start) → roundFrom ws s ≡ quickRound ws s
+unfolding roundFrom quickRound
 quick-round ws s =
-    ap (λ (os : List Standing). roundAt (headingOf ws) os (auction (headingOf ws) (s .last) os))
-    (quick-standing (headingOf ws) (ordersOf ws) (s .remaining))
-    ∙ ap (roundAt (headingOf ws) _) (quick-auction (headingOf ws) (s .last) _)
+    ap (λ (limits : Heading → List Order → List ℕ → List Standing). roundBy limits auction ws s)
+    (fun-ext (λ h. fun-ext (λ orders. fun-ext (quick-standing h orders))))
+    ∙ ap (λ (price : Heading → ℕ → List Standing → Auction). roundBy quickStanding price ws s)
+    (fun-ext (λ h. fun-ext (λ last. fun-ext (quick-auction h last))))
 
 unfoldable pub quickAnswer : Call → Answer
 quickAnswer = answerBy quickFirst quickRound
@@ -61,6 +59,6 @@ quickAnswer = answerBy quickFirst quickRound
 pub quick-answer : (c : Call) → answer c ≡ quickAnswer c
 unfolding answer firstStanding quickAnswer
 quick-answer c =
-    ap (λ (first : List ℕ → List Standing). answerBy first roundOf c)
+    ap (λ (first : List ℕ → List Standing). answerBy first roundFrom c)
     (fun-ext (λ ws. quick-standing (headingOf ws) (ordersOf ws) (firstStart ws .remaining)))
     ∙ ap (λ (round : List ℕ → Start → Round). answerBy quickFirst round c) (fun-ext (λ ws. fun-ext (quick-round ws)))

@@ -10,14 +10,9 @@ use native.Mathlib.Omega.{arith}
 use lib.Dec.{leb}
 use borrow.Author.Tests.{leb-true, leb-false, le-leb, lt-leb}
 use Rattle.rules.proofs.Grid.{both}
+use Rattle.rules.proofs.Tests.{by-test}
 use Rattle.rules.specs.Grid.{greatestTo}
 use Rattle.rules.specs.Lists.{largestTo}
-
--- by cases on a test, with its outcome as an equation
-pub by-test {ℓ} : {A : Type ℓ} (R : A → Type 0) (t : Bool) {x y : A} → (t ≡ true → R x) → (t ≡ false → R y)
-    → R (cond t x y)
-by-test R true f g = f refl
-by-test R false f g = g refl
 
 -- ---- The largest number that passes a test, and the greatest value
 

@@ -20,25 +20,33 @@ use Rattle.rules.specs.declared.Refusal.the-variants.{FewWords, HeadingK
 use Rattle.rules.specs.declared.SpaceAnswer.{SpaceAnswer}
 use Rattle.rules.specs.declared.SpaceAnswer.the-variants.{Written, Refused as NoWords}
 
--- What a call answers: the numbers that it gives, or a refusal with its number and order number.
+-- What a call answers: the numbers that it gives, or a refusal with its number and its place.
 pub data Answer : Type 0 where
   gives : List ℕ → Answer
   refuses : ℕ → ℕ → Answer
 
--- A row of the table: the refusal's number, the order number that it returns, and whether it arises.
+-- A row of the table: the refusal's number, the place that it returns, and whether it arises.
 pub record Check : Type 0 where
   pub number : ℕ
-  pub order : ℕ
+  pub place : ℕ
   pub arises : Bool
 
--- A row whose order number is 0.
+-- A row at a place: the number of an order.
+abbrev pub rowAt : ℕ → ℕ → Bool → Check
+rowAt place number arises = record { number = number; place = place; arises = arises }
+
+-- A row that returns no place: 0.
 abbrev pub row : ℕ → Bool → Check
-row number arises = record { number = number; order = 0; arises = arises }
+row number arises = rowAt 0 number arises
 
 -- Checks run downwards. A refusal returns its number and, for 5–8, the order number, else 0.
 unfoldable pub downwards : List Check → Answer → Answer
 downwards [] a = a
-downwards (c ∷ cs) a = cond (c .arises) (refuses (c .number) (c .order)) (downwards cs a)
+downwards (c ∷ cs) a = cond (c .arises) (refuses (c .number) (c .place)) (downwards cs a)
+
+-- What a table says alone: its refusal, or that nothing arises.
+abbrev pub verdict : List Check → Answer
+verdict cs = downwards cs (gives [])
 
 -- 5 a wrong kind in its three words; 6 disposition or limit not allowed; 7 quantity out of range;
 -- 8 ignored quantity out of range, or above 0 on no Stepper.
@@ -61,20 +69,20 @@ refusalNumber Band = 11
 refusalNumber Space = 10
 refusalNumber Input = 12
 
--- For 5–8, the order number, else 0.
-abbrev pub refusalOrder : Refusal → ℕ
-refusalOrder FewWords = 0
-refusalOrder HeadingKind = 0
-refusalOrder HeadingPrice = 0
-refusalOrder Length = 0
-refusalOrder (Order f k) = k
-refusalOrder Argument = 0
-refusalOrder Band = 0
-refusalOrder Space = 0
-refusalOrder Input = 0
+-- The place of a refusal: for 5–8 the order number, else 0.
+abbrev pub refusalPlace : Refusal → ℕ
+refusalPlace FewWords = 0
+refusalPlace HeadingKind = 0
+refusalPlace HeadingPrice = 0
+refusalPlace Length = 0
+refusalPlace (Order f k) = k
+refusalPlace Argument = 0
+refusalPlace Band = 0
+refusalPlace Space = 0
+refusalPlace Input = 0
 
 abbrev pub refused : Refusal → Answer
-refused r = refuses (refusalNumber r) (refusalOrder r)
+refused r = refuses (refusalNumber r) (refusalPlace r)
 
 -- A sheet that is accepted gives nothing more.
 abbrev pub checkAnswer : Checked → Answer

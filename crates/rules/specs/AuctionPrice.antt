@@ -40,9 +40,13 @@ pub record Level : Type 0 where
 unfoldable pub level : Heading → List Standing → ℕ → Level
 level h os p = record { within = inBand h p; demand = demand os p; supply = supply os p }
 
--- Volume is the smaller of the two; in a round, a price carries as many pieces as its volume there.
+-- Volume is the smaller of the two.
 abbrev pub volume : Level → ℕ
 volume v = min (v .demand) (v .supply)
+
+-- In a round, a price carries as many pieces as its volume there.
+abbrev pub carries : Heading → List Standing → ℕ → ℕ
+carries h os p = volume (level h os p)
 
 -- ---- The auction price
 
@@ -55,12 +59,16 @@ pub record Auction : Type 0 where
 abbrev pub auctioned : Auctioned → Auction
 auctioned a = record { situation = a .situation; price = a .price .0 }
 
--- The price from l to r nearest x. Where one of the two is none, it bounds nothing.
-abbrev pub nearest : Option ℕ → Option ℕ → ℕ → ℕ
-nearest (some l) (some r) x = max l (min r x)
-nearest (some l) none x = max l x
-nearest none (some r) x = min r x
-nearest none none x = x
+-- The price from l to r nearest x.
+abbrev pub nearest : ℕ → ℕ → ℕ → ℕ
+nearest l r x = max l (min r x)
+
+-- The same between two prices that were looked for. In situation 0 both are always found (the claim `Nearest`); the other cases are
+-- there because a search of the grid may give none.
+abbrev pub nearestFound : Option ℕ → Option ℕ → ℕ → ℕ
+nearestFound (some l) (some r) x = nearest l r x
+nearestFound (some l) none x = x
+nearestFound none r x = x
 
 -- A price that was found, or another if none was.
 abbrev pub orElse : Option ℕ → Option ℕ → Option ℕ
@@ -108,7 +116,7 @@ module _ (prices : Scan Level) where
 
   -- Situation 0: the auction price is the price in l..r nearest the last purchase price.
   abbrev pub crossed : ℕ → Auction
-  crossed last = record { situation = 0; price = nearest l r last }
+  crossed last = record { situation = 0; price = nearestFound l r last }
 
 -- Otherwise, from the highest price with demand and the lowest with supply, taken within D..H:
 -- 1, no demand there, some supply: min(lowest price with supply, I).
@@ -120,7 +128,7 @@ uncrossed h last none (some supplied) = record { situation = 1; price = min supp
 uncrossed h last (some demanded) none = record { situation = 2; price = max demanded (I h) }
 uncrossed h last (some demanded) (some supplied) = record {
   situation = 3;
-  price = nearest (some demanded) (some supplied) last;
+  price = nearest demanded supplied last;
 }
 uncrossed h last none none = record { situation = 4; price = last }
 

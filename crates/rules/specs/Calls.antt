@@ -3,17 +3,15 @@
 use mathlib.Core.Bool.{Bool, true, false, not, _&&_}
 use mathlib.Core.List.{List, [], _∷_, _++_}
 use mathlib.Core.Path.{_≡_}
-use Prim.Native.Nat.{ℕ, _≤_}
+use Prim.Native.Nat.{ℕ}
 use lib.Dec.{ltb}
 use lib.ListN.{length, drop}
 use Rattle.rules.specs.Answers.{Answer, gives, refuses, Check, row, downwards}
 use Rattle.rules.specs.AuctionPrice.{Level, level, volume}
 use Rattle.rules.specs.Band.{indicativePrice, nextBand, widenedBand}
-use Rattle.rules.specs.Demand3.{roundIn, Demand3}
-use Rattle.rules.specs.Fills.{Largest}
 use Rattle.rules.specs.Grid.{onGrid}
 use Rattle.rules.specs.Limits.{filed, numbered, standing}
-use Rattle.rules.specs.Opening.{Start, Round, roundOf, firstStart, roundWords, openingBy, roundSpace, openingSpace}
+use Rattle.rules.specs.Opening.{Start, Round, roundFrom, firstStart, roundWords, openingBy, roundSpace, openingSpace}
 use Rattle.rules.specs.Sheet.{headingOf, ordersOf, sheetChecks, checkSheet}
 use Rattle.rules.specs.declared.Standing.{Standing}
 use Rattle.rules.specs.declared.Terms.{Terms}
@@ -31,9 +29,9 @@ pub data Call : Type 0 where
   next : ℕ → ℕ → Call
   widen : ℕ → ℕ → ℕ → Call
 
--- What a call on a sheet answers: the sheet's faults first, then one row of its own.
-abbrev pub onSheet : List ℕ → Check → List ℕ → Answer
-onSheet ws own vs = downwards (sheetChecks ws ++ (own ∷ [])) (gives vs)
+-- What a call on a sheet answers: the sheet's faults first, then the rows of its own.
+abbrev pub onSheet : List ℕ → List Check → List ℕ → Answer
+onSheet ws own vs = downwards (sheetChecks ws ++ own) (gives vs)
 
 abbrev pub stepper : Terms → Bool
 stepper (WithoutLimit a) = false
@@ -56,20 +54,20 @@ firstStanding ws = standing (headingOf ws) (ordersOf ws) (firstStart ws .remaini
 -- from a start.
 unfoldable pub answerBy : (List ℕ → List Standing) → (List ℕ → Start → Round) → Call → Answer
 answerBy first round (check ws) = checkSheet ws
-answerBy first round (stepperLimit ws k) = onSheet ws (row 9 (not (isStepper ws k))) (numbered (first ws) k .limit .0 ∷ [])
+answerBy first round (stepperLimit ws k) = onSheet ws (row 9 (not (isStepper ws k)) ∷ []) (numbered (first ws) k .limit .0 ∷ [])
 answerBy first round (curvesAt ws p) =
-    onSheet ws (row 9 (not (onGrid p))) (curvesOf (level (headingOf ws) (first ws) p))
+    onSheet ws (row 9 (not (onGrid p)) ∷ []) (curvesOf (level (headingOf ws) (first ws) p))
 answerBy first round (firstRound ws space) =
-    onSheet ws (row 10 (ltb space (roundSpace (headingOf ws .count)))) (roundWords (round ws (firstStart ws)))
+    onSheet ws (row 10 (ltb space (roundSpace (headingOf ws .count))) ∷ []) (roundWords (round ws (firstStart ws)))
 answerBy first round (opening ws space) =
-    onSheet ws (row 10 (ltb space (openingSpace (headingOf ws .count)))) (openingBy (round ws) ws)
+    onSheet ws (row 10 (ltb space (openingSpace (headingOf ws .count))) ∷ []) (openingBy (round ws) ws)
 answerBy first round (indicative D H traded closing auction) = indicativePrice D H traded closing auction
 answerBy first round (next code I) = nextBand code I
 answerBy first round (widen D H side) = widenedBand D H side
 
 -- What the rules answer to a call.
 unfoldable pub answer : Call → Answer
-answer = answerBy firstStanding roundOf
+answer = answerBy firstStanding roundFrom
 
 -- What the lent space holds afterwards, where a call gives words: words beyond them keep their content. A refusal writes no
 -- word.
@@ -84,25 +82,7 @@ pub record Writes (call : Call) (before after : List ℕ) (answered : Answer) : 
   -- and so is all that the space holds: the words written, and beyond them what it held; a refusal writes no word
   pub holds : after ≡ spaceAfter (answer call) before
 
--- The call `first round` on the sheet ws.
-pub record FirstRound (ws before after : List ℕ) (answered : Answer) : Type 0 where
-  pub writes : Writes (firstRound ws (length before)) before after answered
-  -- where the sheet is accepted and the space has the words, the fills that stand in the space meet F1–F4, and every other list of n
-  -- fills that meets them has a smaller total
-  pub filled : checkSheet ws ≡ gives [] → roundSpace (headingOf ws .count) ≤ length before
-      → Largest (headingOf ws)
-      (record { situation = roundIn ws after 0 .situation; price = roundIn ws after 0 .price })
-      (firstStanding ws)
-      (roundIn ws after 0 .fills)
-
 -- The words that an answer gives; a refusal gives none.
 abbrev pub wordsGiven : Answer → List ℕ
 wordsGiven (gives words) = words
 wordsGiven (refuses n k) = []
-
--- The call `opening` on the sheet ws.
-pub record Opened (ws before after : List ℕ) (answered : Answer) : Type 0 where
-  pub writes : Writes (opening ws (length before)) before after answered
-  -- where the sheet is accepted and the space has the words, demand 3 holds of the sheet's words and the words given
-  pub demand3 : checkSheet ws ≡ gives [] → openingSpace (headingOf ws .count) ≤ length before
-      → Demand3 ws (wordsGiven answered)

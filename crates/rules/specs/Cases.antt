@@ -8,6 +8,8 @@ use lib.ListN.{length, set, replicate}
 use Rattle.rules.specs.Answers.{Answer, gives, refuses}
 use Rattle.rules.specs.Calls.{Call, check, stepperLimit, curvesAt, firstRound, opening, indicative, next, widen, answer}
 use Rattle.rules.specs.Listing.{ascii, printed}
+use Rattle.rules.specs.Result.{roundsIn, roundSaid, startSaid, piecesOver, tradedOver}
+use Rattle.rules.specs.declared.Side.the-variants.{Buy}
 use Rattle.rules.specs.Words.{word}
 
 -- ---- The table's statement
@@ -216,14 +218,37 @@ furtherCases =
     ∷ case (check (0x1000005a ∷ 0x2000006e ∷ 0x30000064 ∷ 0x40000064 ∷ [])) (refuses 1 0)
     ∷ case (check (0x1000005a ∷ 0x2000006e ∷ 0x30000064 ∷ 0x4000005a ∷ 0x50000000 ∷ [])) (refuses 3 0)
     ∷ case (check (0x1000005a ∷ 0x2000006e ∷ 0x30000064 ∷ 0x40000064 ∷ 0x50000079 ∷ [])) (refuses 4 0)
+    -- a wrong kind comes before a price off the grid; a last purchase price off the grid; a word too many
+    ∷ case (check (0x1000005a ∷ 0x2000006e ∷ 0x30000000 ∷ 0x50000064 ∷ 0x50000000 ∷ [])) (refuses 2 0)
+    ∷ case (check (0x1000005a ∷ 0x2000006e ∷ 0x30000000 ∷ 0x40000064 ∷ 0x50000000 ∷ [])) (refuses 3 0)
+    ∷ case (check (sheet [] ++ (0x60000000 ∷ []))) (refuses 4 0)
+    -- the faults of the second order: a disposition of 3, a quantity of 1,000,001, something ignored by a limited order
+    ∷ case (check (sheet (buy 4 95 ∷ order 6 3 4 95 0 ∷ []))) (refuses 6 1)
+    ∷ case (check (sheet (buy 4 95 ∷ sell 1000001 95 ∷ []))) (refuses 7 1)
+    ∷ case (check (sheet (buy 4 95 ∷ order 7 0 4 95 1 ∷ []))) (refuses 8 1)
     -- a Stepper without limit comes before its quantity of 0 and its ignored quantity of 1,000,001
     ∷ case (check (sheet (stepperBuy 0 0 1000001 ∷ []))) (refuses 6 0)
+    -- the next band of certificates
+    ∷ case (next 1 100) (gives (75 ∷ 125 ∷ []))
     -- the indicative price: the closing purchase price as it is; the last auction price moved to the nearer bound
     ∷ case (indicative 90 110 1 200 0) (gives (200 ∷ []))
     ∷ case (indicative 90 110 0 0 80) (gives (90 ∷ []))
     ∷ case (indicative 90 110 0 0 130) (gives (110 ∷ []))
     ∷ case (indicative 90 90 1 100 100) (refuses 9 0)
     ∷ []
+
+-- ---- What the words of the listing's result say
+
+pub record ListingSaid : Type 0 where
+  -- they are of two rounds; in the first both orders get 4 pieces at 105
+  pub rounds : roundsIn listing listingResult ≡ 2
+  pub first : roundSaid listing listingResult 0
+      ≡ record { situation = 0; price = 105; purchase = 105; total = 4; fills = 4 ∷ 4 ∷ [] }
+  -- the second starts from what it left
+  pub second : startSaid listing listingResult 1 ≡ record { last = 105; remaining = 6 ∷ 0 ∷ [] }
+  -- over the opening order 0 gets 4 pieces, and 4 are bought
+  pub pieces : piecesOver listing listingResult 0 ≡ 4
+  pub bought : tradedOver Buy listing listingResult ≡ 4
 
 -- ---- The program's text
 

@@ -1,10 +1,8 @@
--- Document 01, "Fills": who is eligible, the priority, F1–F4 for any list of fills, and the fills. The orders os stand at
--- their limits in force, and a is the auction of the round.
-use mathlib.Core.Bool.{Bool, true, not, _&&_, _||_, Bool·beq, cond}
+-- Document 01, "Fills": who is eligible, the priority, and the fills. The orders os stand at their limits in force, and a is the
+-- auction of the round. F1–F4, for any list of fills, are claimed of the fills: `claims` has them.
+use mathlib.Core.Bool.{Bool, not, _&&_, _||_, Bool·beq, cond}
 use mathlib.Core.List.{List}
-use mathlib.Core.Logic.{_⊎_, _≢_}
-use mathlib.Core.Path.{_≡_}
-use Prim.Native.Nat.{ℕ, _-_, max, min, _≤_, _<_}
+use Prim.Native.Nat.{ℕ, _-_, max, min}
 use lib.Dec.{leb, ltb, eqb}
 use lib.ListN.{length, getD}
 use Rattle.rules.specs.AuctionPrice.{Auction}
@@ -52,7 +50,7 @@ firstOf h a b i j =
 abbrev pub rankedBefore : Heading → List Standing → ℕ → ℕ → Bool
 rankedBefore h os i j = firstOf h (numbered os i) (numbered os j) i j
 
--- ---- F1–F4, for any list of fills
+-- ---- Lists of fills
 
 -- A list of fills has for each order a whole number from 0, its pieces in the round.
 abbrev pub fillOf : List ℕ → ℕ → ℕ
@@ -61,31 +59,6 @@ fillOf fills k = getD fills k 0
 -- A side's total is the sum over its orders; the list's total, which the result reports, is that of the buys.
 unfoldable pub total : Side → List Standing → List ℕ → ℕ
 total s os fills = sumTo (λ k. cond (sameSide s (numbered os k .side)) (fillOf fills k) 0) (length os)
-
--- An order is filled completely if that is all its remainder.
-abbrev pub FilledCompletely : List Standing → List ℕ → ℕ → Type 0
-FilledCompletely os fills k = fillOf fills k ≡ numbered os k .remaining .0
-
-pub record Lawful (h : Heading) (a : Auction) (os : List Standing) (fills : List ℕ) : Type 0 where
-  -- F1: only eligible orders are filled,
-  pub F1-eligible : (k : ℕ) → k < length os → 0 < fillOf fills k → eligible h a (numbered os k) ≡ true
-  -- none beyond its remainder.
-  pub F1-within : (k : ℕ) → k < length os → fillOf fills k ≤ numbered os k .remaining .0
-  -- F2: an eligible order ranked on its side below one not filled completely gets nothing.
-  pub F2 : (above k : ℕ) → above < length os → k < length os → eligible h a (numbered os k) ≡ true
-      → rankedBefore h os above k ≡ true → (FilledCompletely os fills above → ⊥) → fillOf fills k ≡ 0
-  -- F3: an all-or-none order gets all its remainder or nothing.
-  pub F3 : (k : ℕ) → k < length os → numbered os k .«all_or_none» ≡ true
-      → FilledCompletely os fills k ⊎ (fillOf fills k ≡ 0)
-  -- F4: both sides have equal totals.
-  pub F4 : total Buy os fills ≡ total Sell os fills
-
--- The fills meet F1–F4 with the largest total: every other list of fills that meets them has a smaller one.
-pub record Largest (h : Heading) (a : Auction) (os : List Standing) (fills : List ℕ) : Type 0 where
-  pub each : length fills ≡ length os
-  pub lawful : Lawful h a os fills
-  pub largest : (others : List ℕ) → length others ≡ length os → Lawful h a os others → others ≢ fills
-      → total Buy os others < total Buy os fills
 
 -- ---- The fills, as a function
 
@@ -133,8 +106,3 @@ fillsOf h a os = listed (share h a os (largestTotal h a os)) (length os)
 -- The purchase price is the potential one if the total is at least 1, else 0.
 abbrev pub purchasePrice : Heading → Auction → ℕ → ℕ
 purchasePrice h a sum = cond (leb 1 sum) (potentialPurchase h a) 0
-
--- An order that gets pieces trades at the purchase price. It trades past its limit if that price is above the limit of a buy
--- or below the limit of a sell.
-abbrev pub pastLimit : Side → ℕ → ℕ → Bool
-pastLimit s limit purchase = not (allows s limit purchase)

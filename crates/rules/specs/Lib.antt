@@ -8,7 +8,7 @@ pub mod Limits
 pub mod AuctionPrice
 pub mod Fills
 pub mod Opening
-pub mod Demand3
+pub mod Result
 pub mod Band
 pub mod Calls
 pub mod Listing

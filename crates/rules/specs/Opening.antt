@@ -30,26 +30,30 @@ pub record Round : Type 0 where
   pub total : ℕ
   pub fills : List ℕ
 
--- Auction price, purchase price and total of a round with these fills.
-abbrev pub roundWith : Heading → List Standing → Auction → List ℕ → Round
-roundWith h os a fills = record {
+-- The last step of a round, by a given auction: fills, total and purchase price.
+unfoldable pub settled : Heading → List Standing → Auction → Round
+settled h os a = record {
   situation = a .situation;
   price = a .price;
-  purchase = purchasePrice h a (total Buy os fills);
-  total = total Buy os fills;
-  fills = fills;
+  purchase = purchasePrice h a (total Buy os (fillsOf h a os));
+  total = total Buy os (fillsOf h a os);
+  fills = fillsOf h a os;
 }
 
--- The round of the orders at their limits in force, with its auction.
-unfoldable pub roundAt : Heading → List Standing → Auction → Round
-roundAt h os a = roundWith h os a (fillsOf h a os)
+-- The round of orders at their limits in force, after a last purchase price.
+abbrev pub roundOf : Heading → ℕ → List Standing → Round
+roundOf h last os = settled h os (auction h last os)
 
--- A round of a sheet: the limits in force, then the auction, then the fills.
-abbrev pub roundOver : Heading → ℕ → List Standing → Round
-roundOver h last os = roundAt h os (auction h last os)
+-- A round of a sheet has three steps: the limits in force, by them the auction price, and by both the rest. How limits and price are
+-- found is given.
+abbrev pub roundBy : (Heading → List Order → List ℕ → List Standing) → (Heading → ℕ → List Standing → Auction) → List ℕ → Start → Round
+roundBy limits price ws s =
+    settled (headingOf ws) (limits (headingOf ws) (ordersOf ws) (s .remaining))
+    (price (headingOf ws) (s .last) (limits (headingOf ws) (ordersOf ws) (s .remaining)))
 
-unfoldable pub roundOf : List ℕ → Start → Round
-roundOf ws s = roundOver (headingOf ws) (s .last) (standing (headingOf ws) (ordersOf ws) (s .remaining))
+-- The round of a sheet that starts from s: limits and price over the whole grid.
+unfoldable pub roundFrom : List ℕ → Start → Round
+roundFrom ws s = roundBy standing auction ws s
 
 -- A round hands back all 120 fill places together, those from n on being 0.
 abbrev pub fillPlaces : Round → List ℕ
@@ -117,7 +121,7 @@ openingBy round ws = resultWords (headingOf ws) (roundsFrom round (headingOf ws)
 
 -- The words that the opening of an accepted sheet writes.
 unfoldable pub openingWords : List ℕ → List ℕ
-openingWords ws = openingBy (roundOf ws) ws
+openingWords ws = openingBy (roundFrom ws) ws
 
 -- ---- The space
 

@@ -1,10 +1,11 @@
 -- Document 01, "Sheet", and refusals 1–8 of "Where a refusal arises".
 use mathlib.Core.Bool.{Bool, not, _&&_, _||_, cond}
 use mathlib.Core.List.{List, [], _∷_, _++_}
+use mathlib.Core.Path.{_≡_}
 use Prim.Native.Nat.{ℕ, zero, suc, _+_, _*_, _/_, _%_}
 use lib.Dec.{leb, ltb, eqb}
 use lib.ListN.{length}
-use Rattle.rules.specs.Answers.{Answer, gives, Check, row, downwards}
+use Rattle.rules.specs.Answers.{Answer, gives, Check, row, rowAt, verdict}
 use Rattle.rules.specs.Grid.{onGrid}
 use Rattle.rules.specs.Lists.{listed}
 use Rattle.rules.specs.Words.{wordAt}
@@ -15,6 +16,19 @@ use Rattle.rules.specs.declared.Side.the-variants.{Buy, Sell}
 use Rattle.rules.specs.declared.Terms.{Terms}
 use Rattle.rules.specs.declared.Terms.the-variants.{WithoutLimit, Limited, Stepper}
 use Rattle.rules.specs.declared.Word.{Word}
+
+-- ---- Where a sheet's words stand
+
+-- The heading has 5 words, and each order has 3.
+abbrev pub headingWords : ℕ
+headingWords = 5
+
+abbrev pub orderWords : ℕ
+orderWords = 3
+
+-- Order k is in the words from this place on; where no order is left, the sheet ends.
+abbrev pub orderPlace : ℕ → ℕ
+orderPlace k = headingWords + orderWords * k
 
 -- ---- The heading
 
@@ -48,7 +62,7 @@ mostOrders = 120
 
 -- The sheet has 5 + 3 × n words.
 unfoldable pub lengthFits : ℕ → ℕ → Bool
-lengthFits n words = leb n mostOrders && eqb words (5 + 3 * n)
+lengthFits n words = leb n mostOrders && eqb words (orderPlace n)
 
 -- The heading of a sheet.
 unfoldable pub headingOf : List ℕ → Heading
@@ -112,9 +126,9 @@ orderFrom a b c = record {
 abbrev pub orderIn : List ℕ → ℕ → Order
 orderIn ws at = orderFrom (wordAt ws at) (wordAt ws (at + 1)) (wordAt ws (at + 2))
 
--- Orders are numbered from 0 in filing order: order k is in the three words from 5 + 3 × k on.
+-- Orders are numbered from 0 in filing order.
 unfoldable pub orderAt : List ℕ → ℕ → Order
-orderAt ws k = orderIn ws (5 + 3 * k)
+orderAt ws k = orderIn ws (orderPlace k)
 
 -- The orders of a sheet.
 unfoldable pub ordersOf : List ℕ → List Order
@@ -126,24 +140,20 @@ ordersOf ws = listed (orderAt ws) (headingOf ws .count)
 -- 4 n above 120, or wrong length.
 unfoldable pub headingChecks : List ℕ → List Check
 headingChecks ws =
-    row 1 (ltb (length ws) 5)
+    row 1 (ltb (length ws) headingWords)
     ∷ row 2 (not (headingKinds (wordAt ws 0) (wordAt ws 1) (wordAt ws 2) (wordAt ws 3) (wordAt ws 4)))
     ∷ row 3 (not (pricesOnGrid (headingOf ws) && bandEncloses (headingOf ws)))
     ∷ row 4 (not (lengthFits (headingOf ws .count) (length ws)))
     ∷ []
 
--- A row at the order of number k.
-abbrev pub orderRow : ℕ → ℕ → Bool → Check
-orderRow k number arises = record { number = number; order = k; arises = arises }
-
 -- Order: 5 a wrong kind in its three words; 6 disposition or limit not allowed; 7 quantity out of range;
 -- 8 ignored quantity out of range, or above 0 on no Stepper.
 unfoldable pub orderChecks : ℕ → Word → Word → Word → List Check
 orderChecks k a b c =
-    orderRow k 5 (not (orderKinds a b c))
-    ∷ orderRow k 6 (not (termsAllowed (dispositionIn a) (limitIn a)))
-    ∷ orderRow k 7 (not (quantityAllowed (b .value)))
-    ∷ orderRow k 8 (not (ignoredAllowed (dispositionIn a) (c .value)))
+    rowAt k 5 (not (orderKinds a b c))
+    ∷ rowAt k 6 (not (termsAllowed (dispositionIn a) (limitIn a)))
+    ∷ rowAt k 7 (not (quantityAllowed (b .value)))
+    ∷ rowAt k 8 (not (ignoredAllowed (dispositionIn a) (c .value)))
     ∷ []
 
 -- The checks of order k, in the three words from a place on.
@@ -153,7 +163,7 @@ checksIn ws at k = orderChecks k (wordAt ws at) (wordAt ws (at + 1)) (wordAt ws 
 -- The checks of the first n orders: order, lowest number first.
 unfoldable pub ordersChecks : List ℕ → ℕ → List Check
 ordersChecks ws zero = []
-ordersChecks ws (suc k) = ordersChecks ws k ++ checksIn ws (5 + 3 * k) k
+ordersChecks ws (suc k) = ordersChecks ws k ++ checksIn ws (orderPlace k) k
 
 -- Checks run downwards: the heading, then the orders.
 unfoldable pub sheetChecks : List ℕ → List Check
@@ -161,4 +171,8 @@ sheetChecks ws = headingChecks ws ++ ordersChecks ws (headingOf ws .count)
 
 -- The call that checks a sheet.
 unfoldable pub checkSheet : List ℕ → Answer
-checkSheet ws = downwards (sheetChecks ws) (gives [])
+checkSheet ws = verdict (sheetChecks ws)
+
+-- The sheet is accepted: nothing is refused.
+abbrev pub AcceptedSheet : List ℕ → Type 0
+AcceptedSheet ws = checkSheet ws ≡ gives []

@@ -1,7 +1,7 @@
 // The types that the rules of document 01 and the engine share, and the refusals with their numbers.
 ghost use mathlib.Core.Path.{_≡_};
 ghost use Rattle.rules.specs.Grid.{onGrid};
-ghost use Rattle.rules.specs.Answers.{faultNumber, refusalNumber, refusalOrder};
+ghost use Rattle.rules.specs.Answers.{faultNumber, refusalNumber, refusalPlace};
 
 // A price counts steps of ten hellers.
 pub struct Price(pub u32);
@@ -136,9 +136,9 @@ impl Refusal {
         }
     }
 
-    // The order number of refusals 5 to 8, else 0.
-    pub fn order(self) -> usize
-        ensures { λ r. ⌜ r ≡ refusalOrder self ⌝ }
+    // The place of a refusal: the order number of refusals 5 to 8, else 0.
+    pub fn place(self) -> usize
+        ensures { λ r. ⌜ r ≡ refusalPlace self ⌝ }
     {
         match self {
             Refusal::FewWords => 0,

@@ -1,8 +1,6 @@
--- The places of an accepted sheet begin with its orders, so what the engine works out from heading and places is of the sheet; of the rows
--- of a call on it only the call's own is left.
-use mathlib.Core.Bool.{cond}
-use mathlib.Core.List.{List, [], _∷_}
-use mathlib.Core.Path.{_≡_, ap, _∙_}
+-- The places of an accepted sheet begin with its orders, so what the engine works out from heading and places is of the sheet.
+use mathlib.Core.List.{List}
+use mathlib.Core.Path.{_≡_, ap}
 use Prim.Native.Nat.{ℕ, _-_, _≤_, _<_}
 use native.Mathlib.Omega.{arith}
 use lib.ListN.{length, replicate}
@@ -12,12 +10,9 @@ use Rattle.book.specs.Filed.{filedIn}
 use Rattle.lines.specs.Keys.{room}
 use Rattle.lines.specs.Pieces.{mostPieces, piecesOf}
 use Rattle.rules.proofs.Accepted.{SoundTerms, SoundOrder, SoundSheet, sound-band, accepted-sound}
-use Rattle.rules.proofs.Downwards.{Clear, given-clear, downwards-append}
 use Rattle.rules.proofs.Lists.{length-listed}
-use Rattle.rules.specs.Answers.{gives, refuses, Check, downwards}
-use Rattle.rules.specs.Calls.{onSheet}
 use Rattle.rules.specs.Limits.{noOrder, filed}
-use Rattle.rules.specs.Sheet.{mostOrders, headingOf, orderAt, ordersOf, sheetChecks, checkSheet}
+use Rattle.rules.specs.Sheet.{mostOrders, headingOf, orderAt, ordersOf}
 use Rattle.rules.specs.declared.Heading.{Heading}
 use Rattle.rules.specs.declared.Order.{Order}
 use Rattle.rules.specs.declared.Pieces.{Pieces}
@@ -27,14 +22,6 @@ use Rattle.sheet.specs.Reading.{placesRead}
 use Rattle.run.specs.Accepted.{AcceptedAs, OfSheet}
 
 module _ {ws : List ℕ} {h : Heading} {orders : List Order} (a : AcceptedAs ws h orders) where
-  -- only the call's own row is left
-  pub own-row : (own : Check) (vs : List ℕ)
-      → onSheet ws own vs ≡ cond (own .arises) (refuses (own .number) (own .order)) (gives vs)
-  unfolding checkSheet downwards
-  own-row own vs =
-      let clear : Clear (sheetChecks ws) = given-clear (sheetChecks ws) [] (a .passes) in
-      downwards-append (sheetChecks ws) (own ∷ []) (gives vs) ∙ clear .hands-on _
-
   pub orders-are : filedIn h orders ≡ ordersOf ws
   unfolding filedIn placesRead ordersOf
   orders-are =

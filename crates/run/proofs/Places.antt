@@ -1,18 +1,17 @@
--- An array of 120 pieces that is filled place by place, and what its first places say of the orders: the quantities before the first round,
--- and the remainders that a round leaves.
+-- What the first of 120 places of pieces say of the orders: the quantities before the first round, and the remainders that a round leaves.
 use mathlib.Core.Bool.{Bool, true, false, cond}
-use mathlib.Core.List.{List, [], _∷_, map, map-map, append-nil}
+use mathlib.Core.List.{List, [], _∷_, map, map-map}
 use mathlib.Core.Path.{_≡_, refl, sym, ap, _∙_}
-use Prim.Native.Nat.{ℕ, zero, suc, _+_, _-_, _≤_, _<_}
+use Prim.Native.Nat.{ℕ, zero, suc, _-_, _≤_, _<_}
 use native.Mathlib.Omega.{arith}
 use lib.Dec.{ltb}
-use lib.ListN.{length, getD, take, set, replicate, length-map, length-take, List·getD-map}
-use lib.Seq.{getD-take}
+use lib.ListN.{length, getD, take, length-map, length-take, List·getD-map}
+use Rattle.book.proofs.Remaining.{remaining-at}
 use Rattle.book.specs.Filed.{filedIn, remainingIn}
 use Rattle.lines.specs.Pieces.{piecesOf}
-use Rattle.rounds.specs.Rounds.{ofOrders}
-use Rattle.rounds.specs.declared.Round as declared
-use Rattle.rules.proofs.Lists.{length-listed, getD-listed, listed-is, filled, filled-none, filled-more}
+use Rattle.round.specs.HandedBack.{ofOrders}
+use Rattle.round.specs.declared.Round as declared
+use Rattle.rules.proofs.Lists.{length-listed, getD-listed, listed-is}
 use Rattle.rules.specs.Fills.{fillOf}
 use Rattle.rules.specs.Limits.{noOrder, filed}
 use Rattle.rules.specs.Lists.{listed}
@@ -23,29 +22,6 @@ use Rattle.rules.specs.declared.Order.{Order}
 use Rattle.rules.specs.declared.Pieces.{Pieces}
 use Rattle.run.specs.Starts.{lessFills, startAfter}
 use Rattle.run.specs.declared.start.Start.{Start}
-
--- ---- Place by place
-
-abbrev none : Pieces
-none = record { 0 = 0 }
-
--- the first i places are f's
-pub record Placed (f : ℕ → Pieces) (places : List Pieces) (i : ℕ) : Type 0 where
-  pub few : i ≤ mostOrders
-  pub holds : places ≡ filled f none mostOrders i
-
-pub placed-none : (f : ℕ → Pieces) → Placed f (replicate mostOrders none) 0
-placed-none f = record { few = omega arith; holds = filled-none f none mostOrders }
-
-module _ {f : ℕ → Pieces} {places : List Pieces} {i : ℕ} (p : Placed f places i) where
-  pub placed-more : i < mostOrders → {x : Pieces} → x ≡ f i → Placed f (set places i x) (i + 1)
-  placed-more more e = record { few = omega arith; holds = rw (p .holds, e) (filled-more f none mostOrders i more) }
-
-  pub placed-all : mostOrders ≤ i → places ≡ listed f mostOrders
-  placed-all done =
-      let last : i ≡ mostOrders = omega (arith, p .few) in
-      let rest : mostOrders - i ≡ 0 = omega arith in
-      p .holds ∙ rw (rest, last) (append-nil (listed f mostOrders))
 
 -- ---- The quantities
 
@@ -73,12 +49,6 @@ remaining-first h orders =
 
 -- ---- The remainders that a round leaves
 
-pub remaining-at : (h : Heading) (places : List Pieces) (k : ℕ) → k < h .count → getD (remainingIn h places) k 0 ≡ piecesOf places k
-unfolding remainingIn
-remaining-at h places k l =
-    List·getD-map (λ (m : Pieces). m .0) (take (h .count) places) k none
-    ∙ ap (λ (m : Pieces). m .0) (getD-take (h .count) places k none l)
-
 -- what is left of order k, at its place
 abbrev leftOf : List Pieces → List Pieces → ℕ → Pieces
 leftOf remaining fills k = record { 0 = piecesOf remaining k - piecesOf fills k }
@@ -97,18 +67,18 @@ less-at : (h : Heading) (remaining fills : List Pieces) → h .count ≤ mostOrd
 unfolding lessFills
 less-at h remaining fills few k l =
     let placed : piecesOf (listed (leftOf remaining fills) mostOrders) k ≡ piecesOf remaining k - piecesOf fills k =
-    ap (λ (m : Pieces). m .0) (getD-listed (leftOf remaining fills) mostOrders k none (omega arith)) in
+    ap (λ (m : Pieces). m .0) (getD-listed (leftOf remaining fills) mostOrders k (record { 0 = 0 }) (omega arith)) in
     rw (remaining-at h remaining k l, getD-listed (piecesOf fills) (h .count) k 0 l)
     (sym (remaining-at h (listed (leftOf remaining fills) mostOrders) k l ∙ placed))
 
 -- the rules' start that the engine's stands for
-unfoldable pub startIn : Heading → Start → RulesStart
-startIn h s = record { last = s .last .0; remaining = remainingIn h (s .remaining) }
+unfoldable pub rulesStart : Heading → Start → RulesStart
+rulesStart h s = record { last = s .last .0; remaining = remainingIn h (s .remaining) }
 
 -- and what a round leaves of it
-pub start-after : (h : Heading) (s : Start) (r : declared.Round) → h .count ≤ mostOrders → length (startIn h s .remaining) ≡ h .count
-    → startIn h (startAfter s r) ≡ after (startIn h s) (ofOrders (h .count) r)
-unfolding startIn startAfter after
+pub start-after : (h : Heading) (s : Start) (r : declared.Round) → h .count ≤ mostOrders → length (rulesStart h s .remaining) ≡ h .count
+    → rulesStart h (startAfter s r) ≡ after (rulesStart h s) (ofOrders (h .count) r)
+unfolding rulesStart startAfter after
 start-after h s r few long =
     rw (
       long,

@@ -6,7 +6,7 @@ use Prim.Native.Nat.{ℕ, _-_}
 use lib.Dec.{ltb}
 use lib.ListN.{length, drop}
 use Rattle.lines.specs.Pieces.{piecesOf}
-use Rattle.rounds.specs.declared.Round.{Round}
+use Rattle.round.specs.declared.Round.{Round}
 use Rattle.rules.specs.Lists.{listed}
 use Rattle.rules.specs.Opening.{openingWords}
 use Rattle.rules.specs.Sheet.{mostOrders}

@@ -1,18 +1,10 @@
 // Whether an opening goes on after a round, and how it ends.
 ghost use mathlib.Core.Path.{_≡_};
-ghost use Rattle.rules.specs.AuctionPrice.{inBand};
 ghost use Rattle.rules.specs.Opening.{goesOn, endingAfter};
-ghost use Rattle.rounds.specs.Rounds.{handedBack};
-use rounds::Round;
+ghost use Rattle.round.specs.HandedBack.{handedBack};
+use compare::in_band;
+use round::Round;
 use rules::Heading;
-use rules::Price;
-
-// Whether a price lies in D..H.
-fn in_band(heading: Heading, price: Price) -> bool
-    ensures { λ r. ⌜ r ≡ inBand heading (price .0) ⌝ }
-{
-    (heading.lower.0 <= price.0) & (price.0 <= heading.upper.0)
-}
 
 // The opening goes on only after situation 0, auction price in the band, total at least 1.
 pub(crate) fn goes_on(heading: Heading, round: Round) -> bool

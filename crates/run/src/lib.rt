@@ -11,13 +11,13 @@ ghost use Rattle.run.specs.Starts.{Ran};
 use book::entering::book_of;
 use ending::ending_after;
 use ending::goes_on;
-use rounds::round_of;
-use rounds::words::word;
-use rounds::words::write_round;
+use round::round_of;
+use round::writing::write_round;
 use rules::Heading;
 use rules::Order;
 use start::after;
 use start::first_start;
+use words::word;
 
 // Runs the rounds of an opening by the sheet's book, each written into its own stretch of the space, and writes
 // the last word behind them. Hands back how many words were written.

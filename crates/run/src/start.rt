@@ -6,7 +6,7 @@ ghost use Prim.Native.Nat.{_-_};
 ghost use lib.Dec.{ltb};
 ghost use Rattle.rules.specs.declared.Order as declared;
 ghost use Rattle.run.specs.Starts.{startOf, lessFills, startAfter};
-use rounds::Round;
+use round::Round;
 use rules::Heading;
 use rules::Order;
 use rules::Pieces;

@@ -4,16 +4,16 @@
 use mathlib.Core.Bool.{Bool}
 use mathlib.Core.List.{List, [], _++_}
 use mathlib.Core.Path.{_≡_, sym, ap, _∙_}
-use Prim.Native.Nat.{ℕ, zero, suc, _+_, _*_, _≤_, _<_}
+use Prim.Native.Nat.{ℕ, zero, suc, _+_, _≤_, _<_}
 use native.Mathlib.Decide.{decLe}
 use native.Mathlib.Numerals.{add-one}
 use native.Mathlib.Omega.{arith}
-use lib.ListN.{length, set, replicate}
-use Rattle.rules.specs.Answers.{gives, refuses, faultNumber, refusalNumber, refusalOrder}
-use Rattle.rules.specs.Sheet.{headingFrom, headingOf, orderFrom, orderAt, checksIn, ordersOf, headingChecks, ordersChecks, sheetChecks, checkSheet, mostOrders}
+use lib.ListN.{length, set, replicate, length-replicate}
+use Rattle.rules.specs.Answers.{gives, refuses, verdict, faultNumber, refusalNumber, refusalPlace}
+use Rattle.rules.specs.Sheet.{orderPlace, headingFrom, headingOf, orderFrom, orderAt, checksIn, ordersOf, headingChecks, ordersChecks, sheetChecks, checkSheet, mostOrders}
 use Rattle.rules.proofs.Accepted.{heading-passes}
-use Rattle.rules.proofs.Downwards.{Clear, Stops, nothing-left, clear-append, stops-first, stops-after}
-use Rattle.rules.proofs.Lists.{filled, filled-none, filled-more}
+use Rattle.rules.proofs.Downwards.{Clear, Stops, given-clear, refused-stops, nothing-left, clear-append, stops-first, stops-after}
+use Rattle.rules.proofs.Painting.{Painted, painted-none, painted-more, painted-first}
 use Rattle.rules.specs.declared.Checked.the-variants.{Accepted}
 use Rattle.rules.specs.declared.Heading.{Heading}
 use Rattle.rules.specs.declared.Order.{Order}
@@ -23,7 +23,7 @@ use Rattle.rules.specs.declared.Refusal.the-variants.{Order as OrderRefusal}
 use Rattle.rules.specs.Limits.{noOrder}
 use Rattle.sheet.specs.Reading.{headingRead, placesRead, ReadsAs}
 use Rattle.sheet.specs.Steps.{headingWordsOf, orderWordsAt, refusedReading, HeadingReadsAs, OrderCheckedAs, OrderReadsAs}
-use Rattle.sheet.specs.declared.cursor.Cursor.{Cursor}
+use Rattle.words.specs.declared.cursor.Cursor.{Cursor}
 use Rattle.sheet.specs.declared.heading.HeadingRead.{HeadingRead}
 use Rattle.sheet.specs.declared.heading.HeadingRead.the-variants.{Passed as PassedHeading, Refused as RefusedHeading}
 use Rattle.sheet.specs.declared.heading.HeadingWords.{HeadingWords}
@@ -48,15 +48,15 @@ said-of wrong e told out = sym (ap wrong e) ∙ sym told ∙ out
 -- ---- a refused sheet
 
 -- a table that stops makes the sheet refused, and nothing is handed on
-pub refused-reading : (ws : List ℕ) (r : Refusal) → Stops (sheetChecks ws) (refusalNumber r) (refusalOrder r) → ReadsAs ws (refusedReading r)
+pub refused-reading : (ws : List ℕ) (r : Refusal) → Stops (sheetChecks ws) (refusalNumber r) (refusalPlace r) → ReadsAs ws (refusedReading r)
 unfolding checkSheet headingRead placesRead
 refused-reading ws r p =
-    let e : checkSheet ws ≡ refuses (refusalNumber r) (refusalOrder r) = p .refuses-all (gives []) in
+    let e : checkSheet ws ≡ refuses (refusalNumber r) (refusalPlace r) = p .refuses-all (gives []) in
     record { checked = sym e; heading = rw e; orders = rw e }
 
 pub refused-heading : (ws : List ℕ) {h : HeadingRead} {r : Refusal} → HeadingReadsAs ws h → h ≡ RefusedHeading r → ReadsAs ws (refusedReading r)
 unfolding sheetChecks
-refused-heading ws {h} {r} reads e = refused-reading ws r (stops-first _ (rw e at reads))
+refused-heading ws {h} {r} reads e = refused-reading ws r (stops-first _ (refused-stops (headingChecks ws) [] (rw e at reads)))
 
 -- ---- an order
 
@@ -80,17 +80,17 @@ faulty-order ws at e checked p = rw e at (rw p at checked)
 pub record SoFar (ws : List ℕ) (count : ℕ) (orders : List Order) (cursor : Cursor) (i : ℕ) : Type 0 where
   pub counted : count ≡ headingOf ws .count
   pub fits : count ≤ mostOrders
-  pub words : length ws ≡ 5 + 3 * count
+  pub words : length ws ≡ orderPlace count
   pub few : i ≤ count
-  pub place : cursor .at ≡ 5 + 3 * i
-  pub places : orders ≡ filled (orderAt ws) noOrder mostOrders i
+  pub place : cursor .at ≡ orderPlace i
+  pub places : Painted (orderAt ws) (replicate mostOrders noOrder) orders i
   pub clear : Clear (ordersChecks ws i)
 
 pub so-far-none : (ws : List ℕ) {heading : Heading} {start : Cursor} {none : Order} → HeadingReadsAs ws (PassedHeading heading start)
     → none ≡ noOrder → SoFar ws (heading .count) (replicate mostOrders none) start 0
 unfolding ordersChecks
 so-far-none ws {heading} reads e =
-    let passes = heading-passes ws (reads .0) in
+    let passes = heading-passes ws (given-clear (headingChecks ws) [] (reads .0)) in
     let counted : heading .count ≡ headingOf ws .count = ap (λ (h : Heading). h .count) (reads .1) in
     record {
       counted = counted;
@@ -98,7 +98,7 @@ so-far-none ws {heading} reads e =
       words = rw counted (passes .1);
       few = omega arith;
       place = reads .2;
-      places = rw e (filled-none (orderAt ws) noOrder mostOrders);
+      places = rw e (painted-none (orderAt ws) (replicate mostOrders noOrder));
       clear = nothing-left;
     }
 
@@ -108,7 +108,7 @@ unfolding ordersChecks
 stops-later ws m zero less p = let e : m ≡ 0 = omega arith in rw e at p
 stops-later ws m (suc n) {a} {b} less p = go (λ l. stops-later ws m n l p) (decLe m n)
   where
-    go : (m ≤ n → Stops (ordersChecks ws n) a b) → Dec (m ≤ n) → Stops (ordersChecks ws n ++ checksIn ws (5 + 3 * n) n) a b
+    go : (m ≤ n → Stops (ordersChecks ws n) a b) → Dec (m ≤ n) → Stops (ordersChecks ws n ++ checksIn ws (orderPlace n) n) a b
     go earlier (yes l) = stops-first _ (earlier l)
     go earlier (no l) = let e : m ≡ suc n = omega (arith, l) in rw e at p
 
@@ -119,7 +119,8 @@ module _ (ws : List ℕ) {count : ℕ} {orders : List Order} {cursor : Cursor} {
   so-far-more {r} {o} more reads e =
       let order = rw e at reads in
       let made : o ≡ orderAt ws i = rw (so-far .place) at (order .1) in
-      let checked : Clear (checksIn ws (5 + 3 * i) i) = rw (so-far .place) at (order .0 i) in
+      let checked : Clear (checksIn ws (orderPlace i) i) =
+      given-clear (checksIn ws (orderPlace i) i) [] (rw (so-far .place) at (order .0 i)) in
       let f = so-far .fits in
       record {
         counted = so-far .counted;
@@ -127,23 +128,23 @@ module _ (ws : List ℕ) {count : ℕ} {orders : List Order} {cursor : Cursor} {
         words = so-far .words;
         few = omega arith;
         place = omega (arith, order .2, so-far .place);
-        places = rw (so-far .places, made) (filled-more (orderAt ws) noOrder mostOrders i (omega arith));
+        places = painted-more (so-far .places) noOrder (omega (arith, length-replicate mostOrders noOrder)) made;
         clear = rw (add-one i) (clear-append (so-far .clear) checked);
       }
 
-  pub faulty-reading : {r : OrderRead} {f : OrderFault} → Clear (headingChecks ws) → i < count → OrderReadsAs ws (cursor .at) r
+  pub faulty-reading : {r : OrderRead} {f : OrderFault} → verdict (headingChecks ws) ≡ gives [] → i < count → OrderReadsAs ws (cursor .at) r
       → r ≡ FaultyOrder f → ReadsAs ws (refusedReading (OrderRefusal f i))
   unfolding ordersChecks sheetChecks
   faulty-reading {r} {f} heading more reads e =
-      let fault = rw (so-far .place) at ((rw e at reads) i) in
+      let fault = refused-stops (checksIn ws (orderPlace i) i) [] (rw (so-far .place) at ((rw e at reads) i)) in
       let stopped : Stops (ordersChecks ws (suc i)) (faultNumber f) i = stops-after (so-far .clear) fault in
       let n = so-far .counted in
-      refused-reading ws (OrderRefusal f i) (stops-after heading (stops-later ws (suc i) (headingOf ws .count) (omega arith) stopped))
+      refused-reading ws (OrderRefusal f i) (stops-after (given-clear (headingChecks ws) [] heading) (stops-later ws (suc i) (headingOf ws .count) (omega arith) stopped))
 
   pub accepted-reading : {heading : Heading} {start : Cursor} → HeadingReadsAs ws (PassedHeading heading start) → count ≤ i
       → ReadsAs ws (record { checked = Accepted; heading = heading; orders = orders })
   unfolding checkSheet sheetChecks headingRead placesRead ordersOf
   accepted-reading reads done =
       let last : i ≡ headingOf ws .count = omega (arith, so-far .few, so-far .counted) in
-      let e : checkSheet ws ≡ gives [] = clear-append (reads .0) (rw last at (so-far .clear)) .hands-on (gives []) in
-      record { checked = sym e; heading = rw e (reads .1); orders = rw e (rw last at (so-far .places)) }
+      let e : checkSheet ws ≡ gives [] = clear-append (given-clear (headingChecks ws) [] (reads .0)) (rw last at (so-far .clear)) .hands-on (gives []) in
+      record { checked = sym e; heading = rw e (reads .1); orders = rw e (rw last at (painted-first noOrder mostOrders (so-far .places))) }

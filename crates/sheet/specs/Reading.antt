@@ -40,3 +40,8 @@ pub record ReadsAs (ws : List ℕ) (r : Reading) : Type 0 where
   pub checked : checkAnswer (r .checked) ≡ checkSheet ws
   pub heading : r .heading ≡ headingRead ws
   pub orders : r .orders ≡ placesRead ws
+
+-- It is the reading of some sheet.
+pub record OfWords (r : Reading) : Type 0 where
+  pub words : List ℕ
+  pub reads : ReadsAs words r

@@ -1,13 +1,12 @@
 -- The steps of the reading, for the promises inside this crate: what each finds, in the terms of the rules.
 use mathlib.Core.Bool.{Bool, not, _&&_}
-use mathlib.Core.List.{List}
+use mathlib.Core.List.{List, []}
 use mathlib.Core.Path.{_≡_}
 use Prim.Native.Nat.{ℕ, _+_}
 use lib.ListN.{replicate}
-use Rattle.rules.specs.Answers.{faultNumber, refusalNumber, refusalOrder}
-use Rattle.rules.specs.Sheet.{headingKinds, pricesOnGrid, bandEncloses, lengthFits, mostOrders, headingOf, orderIn, headingChecks, orderChecks, checksIn}
+use Rattle.rules.specs.Answers.{gives, refuses, verdict, faultNumber, refused}
+use Rattle.rules.specs.Sheet.{headingWords, orderWords, headingKinds, pricesOnGrid, bandEncloses, lengthFits, mostOrders, headingOf, orderIn, headingChecks, orderChecks, checksIn}
 use Rattle.rules.specs.Words.{wordAt}
-use Rattle.rules.proofs.Downwards.{Clear, Stops}
 use Rattle.rules.specs.declared.Checked.the-variants.{Refused as RefusedSheet}
 use Rattle.rules.specs.declared.Heading.{Heading}
 use Rattle.rules.specs.declared.Refusal.{Refusal}
@@ -35,7 +34,7 @@ headingWordsOf ws = record {
   last = wordAt ws 2;
   indicative = wordAt ws 3;
   count = wordAt ws 4;
-  next = record { at = 5 };
+  next = record { at = headingWords };
 }
 
 -- What refusals 2, 3 and 4 look for, in the words and in the heading that were read.
@@ -50,8 +49,9 @@ wrongLength words h = not (lengthFits (h .count) words)
 
 -- A heading that passes is the sheet's, and none of its checks arises; one that is refused stops with its refusal.
 abbrev pub HeadingReadsAs : List ℕ → HeadingRead → Type 0
-HeadingReadsAs ws (PassedHeading h next) = Clear (headingChecks ws) × (h ≡ headingOf ws) × (next .at ≡ 5)
-HeadingReadsAs ws (RefusedHeading r) = Stops (headingChecks ws) (refusalNumber r) (refusalOrder r)
+HeadingReadsAs ws (PassedHeading h next) =
+    (verdict (headingChecks ws) ≡ gives []) × (h ≡ headingOf ws) × (next .at ≡ headingWords)
+HeadingReadsAs ws (RefusedHeading r) = verdict (headingChecks ws) ≡ refused r
 
 -- The three words from a place on, and the place after them.
 abbrev pub orderWordsAt : List ℕ → ℕ → OrderWords
@@ -59,15 +59,16 @@ orderWordsAt ws at = record {
   first = wordAt ws at;
   second = wordAt ws (at + 1);
   third = wordAt ws (at + 2);
-  next = record { at = at + 3 };
+  next = record { at = at + orderWords };
 }
 
 -- An order's checks, whatever its number: none arises, or they stop with its fault.
 abbrev pub OrderCheckedAs : OrderWords → OrderChecked → Type 0
-OrderCheckedAs t PassedChecks = (k : ℕ) → Clear (orderChecks k (t .first) (t .second) (t .third))
-OrderCheckedAs t (FaultyChecks f) = (k : ℕ) → Stops (orderChecks k (t .first) (t .second) (t .third)) (faultNumber f) k
+OrderCheckedAs t PassedChecks = (k : ℕ) → verdict (orderChecks k (t .first) (t .second) (t .third)) ≡ gives []
+OrderCheckedAs t (FaultyChecks f) = (k : ℕ) → verdict (orderChecks k (t .first) (t .second) (t .third)) ≡ refuses (faultNumber f) k
 
 -- The same of the order at a place; one that passes is what its three words say.
 abbrev pub OrderReadsAs : List ℕ → ℕ → OrderRead → Type 0
-OrderReadsAs ws at (PassedOrder o next) = ((k : ℕ) → Clear (checksIn ws at k)) × (o ≡ orderIn ws at) × (next .at ≡ at + 3)
-OrderReadsAs ws at (FaultyOrder f) = (k : ℕ) → Stops (checksIn ws at k) (faultNumber f) k
+OrderReadsAs ws at (PassedOrder o next) =
+    ((k : ℕ) → verdict (checksIn ws at k) ≡ gives []) × (o ≡ orderIn ws at) × (next .at ≡ at + orderWords)
+OrderReadsAs ws at (FaultyOrder f) = (k : ℕ) → verdict (checksIn ws at k) ≡ refuses (faultNumber f) k

@@ -2,14 +2,16 @@
 ghost use mathlib.Core.Path.{_≡_};
 ghost use Prim.Native.Nat.{_≤_};
 ghost use lib.ListN.{length};
-ghost use Rattle.rules.specs.Sheet.{headingFrom};
+ghost use Rattle.rules.specs.Sheet.{headingWords, headingFrom};
 ghost use Rattle.sheet.specs.Steps.{headingWordsOf, wrongKinds, wrongPrices, wrongLength, HeadingReadsAs};
-use crate::cursor::Cursor;
+use crate::HEADING_WORDS;
+use crate::ORDER_WORDS;
 use rules::Heading;
 use rules::Price;
 use rules::Refusal;
 use rules::Word;
 use rules::on_grid;
+use words::cursor::Cursor;
 
 // The five words of a heading, and the place after them.
 pub(crate) struct HeadingWords {
@@ -28,7 +30,7 @@ pub(crate) enum HeadingRead {
 }
 
 fn read_heading_words(words: &[u32]) -> HeadingWords
-    requires { ⌜ 5 ≤ length (now words) ⌝ }
+    requires { ⌜ headingWords ≤ length (now words) ⌝ }
     ensures { λ r. ⌜ r ≡ headingWordsOf (now (words .entry)) ⌝ }
 {
     let lower = Cursor::start().step(words);
@@ -94,14 +96,14 @@ fn wrong_length(heading: Heading, words: usize) -> bool
     if 120 < count {
         return true;
     }
-    words != 5 + 3 * count
+    words != HEADING_WORDS + ORDER_WORDS * count
 }
 
 // Reads the heading. Its checks run downwards.
 pub(crate) fn read_heading(words: &[u32]) -> HeadingRead
     ensures { λ r. ⌜ HeadingReadsAs (now (words .entry)) r ⌝ }
 {
-    if words.len() < 5 {
+    if words.len() < HEADING_WORDS {
         return HeadingRead::Refused(Refusal::FewWords);
     }
     let five = read_heading_words(words);

@@ -1,5 +1,4 @@
 // Document 01, "Sheet": reading the words of a sheet, and its check.
-mod cursor;
 mod heading;
 mod orders;
 
@@ -14,6 +13,11 @@ use orders::read_orders;
 use rules::Checked;
 use rules::Heading;
 use rules::Order;
+
+// The heading has 5 words, and each order has 3.
+pub(crate) const HEADING_WORDS: usize = 5;
+
+pub(crate) const ORDER_WORDS: usize = 3;
 
 // What a sheet says, for the calls that go on from it: the answer of its check, its heading and its
 // orders in 120 places, those from the number of orders on holding none. Of a refused sheet no heading

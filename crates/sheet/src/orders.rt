@@ -3,13 +3,12 @@ ghost use mathlib.Core.Path.{_≡_};
 ghost use mathlib.Core.Bool.{not};
 ghost use Prim.Native.Nat.{_+_, _≤_};
 ghost use lib.ListN.{length};
-ghost use Rattle.rules.specs.Sheet.{orderKinds, termsAllowed, quantityAllowed, ignoredAllowed, sideOf, termsOf, orderFrom};
+ghost use Rattle.rules.specs.Sheet.{orderWords, orderKinds, termsAllowed, quantityAllowed, ignoredAllowed, sideOf, termsOf, orderFrom};
 ghost use Rattle.rules.specs.Limits.{noOrder};
 ghost use Rattle.sheet.specs.Reading.{ReadsAs};
 ghost use Rattle.sheet.specs.Steps.{orderWordsAt, OrderCheckedAs, OrderReadsAs, HeadingReadsAs, refusedReading};
 ghost use Rattle.sheet.specs.declared.heading.HeadingRead.the-variants.{Passed as PassedHeading};
 use crate::Reading;
-use crate::cursor::Cursor;
 use rules::Checked;
 use rules::Heading;
 use rules::Order;
@@ -21,6 +20,7 @@ use rules::Side;
 use rules::Terms;
 use rules::Word;
 use rules::on_grid;
+use words::cursor::Cursor;
 
 // The three words of an order, and the place after them.
 pub(crate) struct OrderWords {
@@ -43,7 +43,7 @@ pub(crate) enum OrderRead {
 }
 
 fn read_order_words(words: &[u32], cursor: Cursor) -> OrderWords
-    requires { ⌜ cursor .at + 3 ≤ length (now words) ⌝ }
+    requires { ⌜ cursor .at + orderWords ≤ length (now words) ⌝ }
     ensures { λ r. ⌜ r ≡ orderWordsAt (now (words .entry)) (cursor .at) ⌝ }
 {
     let first = cursor.step(words);
@@ -158,7 +158,7 @@ fn order_from(three: OrderWords) -> Order
 
 // Reads the order at a place.
 fn read_order(words: &[u32], cursor: Cursor) -> OrderRead
-    requires { ⌜ cursor .at + 3 ≤ length (now words) ⌝ }
+    requires { ⌜ cursor .at + orderWords ≤ length (now words) ⌝ }
     ensures { λ r. ⌜ OrderReadsAs (now (words .entry)) (cursor .at) r ⌝ }
 {
     let three = read_order_words(words, cursor);

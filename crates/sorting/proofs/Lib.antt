@@ -1,2 +1,3 @@
--- Laws of putting a number among others.
+-- Laws of putting a number among others that fall, and of finding a place among them.
 pub mod Moving
+pub mod Halving

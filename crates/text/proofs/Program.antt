@@ -8,8 +8,8 @@ use native.Mathlib.Omega.{arith}
 use lib.Dec.{eqb}
 use lib.ListN.{length, getD}
 use borrow.Author.Tests.{eqb-true, leb-true, le-ltb}
-use Rattle.laws.proofs.Bounds.{most-space}
-use Rattle.laws.proofs.Demand3Holds.{result-fits}
+use Rattle.claims.proofs.Bounds.{most-space}
+use Rattle.claims.proofs.Demand3Holds.{result-fits}
 use Rattle.rules.proofs.Accepted.{accepted-sound}
 use Rattle.rules.proofs.Downwards.{Clear, Stops, given-clear, refused-stops, downwards-append}
 use Rattle.rules.proofs.Grid.{both}

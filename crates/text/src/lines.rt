@@ -68,5 +68,5 @@ pub(crate) fn write_refusal(refusal: Refusal, out: &mut [u8]) -> usize
     requires { ⌜ 50 ≤ length (now out) ⌝ }
     ensures { λ r. ⌜ InFront (printedAnswer (refused refusal)) (now (out .entry)) (now (out .exit)) r ⌝ }
 {
-    write_refused(refusal.number() as u64, refusal.order() as u64, out)
+    write_refused(refusal.number() as u64, refusal.place() as u64, out)
 }

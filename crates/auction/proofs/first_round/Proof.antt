@@ -1,49 +1,23 @@
--- `first_round` meets its contract: an accepted sheet leaves the call's own row, a refused one its own refusal, and nothing is written.
+-- `first_round` meets its contract: the answer and the space are those of the rules, and what is claimed of them follows.
+use Rattle.claims.proofs.CallsHold.{first-round-holds}
 use borrow.Author.Needs.{needs}
-use Rattle.auction.proofs.FirstRound.{accepted-as}
-use Rattle.auction.proofs.FirstWritten.{round-refused}
 use Rattle.auction.proofs.first_round.Statement.{statement}
 use Rattle.auction.proofs.first_round.Tie as tie
+use Rattle.auction.proofs.first.round_in_first.Reads as round-in-first-reads
+use Rattle.sheet.proofs.read_sheet.Reads as read-sheet-reads
 
 read-sheet-requires : tie.Need-read-sheet-requires
 read-sheet-requires c κs = search needs
 
-enum-told : tie.Need-enum-told
-enum-told c = search needs
-
 round-in-first-requires : tie.Need-round-in-first-requires
-round-in-first-requires c κs =
-    let read = c .before .before .before .before .before in
-    record {
-      words = read .before .before .before .args .words .now;
-      accepted = accepted-as _ (read .read-sheet .ensures) (c .before .enum-told .given .1);
-    }
-
-enum-known-checked : tie.Need-enum-known-checked
-enum-known-checked c = search needs
+round-in-first-requires c κs = record { words = c .before .before .before .before .args .words .now; reads = c .before .read-sheet .ensures }
 
 same-length : tie.Need-same-length
 same-length c = search needs
 
 returns : tie.Need-returns
-returns c =
-    let told = c .before .before .before .before in
-    let read = told .before .before .before .before in
-    c .before .before .round-in-first .ensures _ (accepted-as _ (read .read-sheet .ensures) (told .enum-told .given .1))
-
-returns-2 : tie.Need-returns-2
-returns-2 c =
-    let read = c .before .before .before .before .before in
-    round-refused (read .before .before .before .args .words .now) (read .read-sheet .ensures) (c .before .checked .given .1)
+returns c = first-round-holds (c .before .before .round-in-first .ensures _ (c .before .before .before .before .read-sheet .ensures))
 
 pub first-round-spec : {M : Type 1} → statement M
 first-round-spec =
-    tie.close
-    (tie.spec
-    read-sheet-requires
-    enum-told
-    round-in-first-requires
-    enum-known-checked
-    same-length
-    returns
-    returns-2)
+    tie.close (tie.spec read-sheet-requires round-in-first-requires same-length returns)

@@ -13,8 +13,8 @@ returns c =
     let a = c .before .before .before .before .args in
     λ os b buys sells. none-filled (a .heading) (auctioned (a .auction)) os (c .if1 .taken) (buys .few)
 
-moved-into-requires : tie.Need-moved-into-requires
-moved-into-requires c κs = search needs
+potential-purchase-requires : tie.Need-potential-purchase-requires
+potential-purchase-requires c κs = search needs
 
 queue-of-requires : tie.Need-queue-of-requires
 queue-of-requires c κs = search needs
@@ -42,7 +42,7 @@ fills-from-requires : tie.Need-fills-from-requires
 fills-from-requires c κs =
     let sold = c .before .before .before .before in
     let bought = sold .before .before .before .before in
-    let start = bought .before .before .before .before .before .before .before .before .before .before in
+    let start = bought .before .before .before .before .before .before .before in
     let s = sold .queue-of2 .ensures in
     let b = bought .queue-of .ensures in
     simp length-take (omega (arith, s .long, s .within, b .long, b .within, start .pre))
@@ -58,20 +58,20 @@ returns-2 c =
     let sold = c .before .before .before .before .before in
     let bought = sold .before .before .before .before in
     let moved = bought .before .before in
-    let start = moved .before .before .before .before .before .before .before .before in
-    let crossed = moved .before .before .before .before .if1 .left in
+    let start = moved .before .before .before .before .before in
+    let crossed = moved .before .if1 .left in
     let a = auctioned (start .args .auction) in
     λ os b buys sells.
     c .fills-from .ensures (start .args .heading) a os
-    (bought .queue-of .ensures .given a os crossed (moved .moved-into .ensures) b buys)
-    (sold .queue-of2 .ensures .given a os crossed (moved .moved-into .ensures) b sells)
+    (bought .queue-of .ensures .given a os crossed (moved .potential-purchase .ensures) b buys)
+    (sold .queue-of2 .ensures .given a os crossed (moved .potential-purchase .ensures) b sells)
 
 pub fills-of-spec : {M : Type 1} → statement M
 fills-of-spec =
     tie.close
     (tie.spec
     returns
-    moved-into-requires
+    potential-purchase-requires
     queue-of-requires
     queue-of-requires-2
     slice-reshare-prefix-fills-from

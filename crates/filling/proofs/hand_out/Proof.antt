@@ -3,14 +3,13 @@
 use Prim.Native.Nat.{_-_}
 use native.Mathlib.Omega.{arith}
 use lib.ListN.{length}
-use Rattle.lines.proofs.Standing.{gone-room}
 use Rattle.rules.proofs.Tests.{tests}
 use Rattle.filling.proofs.Handing.{HandedOut, handed-none, handed-more, handed-enough, handed-end}
 use Rattle.filling.proofs.hand_out.Statement.{statement}
 use Rattle.filling.proofs.hand_out.Tie as tie
 
 abbrev Inv-loop : tie.InvT-loop
-Inv-loop queue total given₀ ahead₀ i₀ given ahead i = HandedOut queue total given₀ given ahead i
+Inv-loop queue total given₀ ahead₀ i₀ given ahead i = HandedOut queue (total .0) given₀ given (ahead .0) i
 
 abbrev μ-loop : tie.MeasureT-loop
 μ-loop queue total given₀ ahead₀ i₀ given ahead i = length queue - i
@@ -19,7 +18,7 @@ loop-holds : tie.Need-loop-holds Inv-loop μ-loop
 loop-holds c = handed-none _ _ (search tests)
 
 returns : tie.Need-returns Inv-loop μ-loop
-returns c = handed-enough (c .before .before .loop .inv) (c .if1 .taken)
+returns c = handed-enough (c .before .before .before .before .loop .inv) (c .if1 .taken)
 
 mul-entry : tie.Need-mul-entry Inv-loop μ-loop
 mul-entry c = search tests
@@ -40,25 +39,25 @@ mul-given : tie.Need-mul-given Inv-loop μ-loop
 mul-given c = omega (arith, c .before .number-in .ensures .1)
 
 array-set-from-given : tie.Need-array-set-from-given Inv-loop μ-loop
-array-set-from-given c = omega (arith, c .before .number-in .ensures .1, c .before .before .before .before .before .before .loop .inv .long)
+array-set-from-given c = omega (arith, c .before .number-in .ensures .1, c .before .before .before .before .before .before .before .before .loop .inv .long)
 
-add-ahead : tie.Need-add-ahead Inv-loop μ-loop
-add-ahead c =
-    let l = c .before .before .before .before .before .before in
-    omega (arith, c .before .before .amount-in .ensures .1, gone-room (l .loop .inv .so-far), l .loop .inv .so-far .within, l .before .before .pre)
+add-t13 : tie.Need-add-t13 Inv-loop μ-loop
+add-t13 c =
+    let l = c .before .before .before .before .before .before .before .before .before .before in
+    omega (arith, c .before .before .before .before .amount-in .ensures .1, l .loop .inv .so-far .most, l .loop .inv .so-far .within, l .before .before .pre)
 
 add-i : tie.Need-add-i Inv-loop μ-loop
 add-i c = search tests
 
 loop-less : tie.Need-loop-less Inv-loop μ-loop
-loop-less c = search tests
+loop-less c = omega (arith, c .before .before .before .before .before .before .before .before .before .loop-test .taken)
 
 loop-again : tie.Need-loop-again Inv-loop μ-loop
 loop-again c =
-    let n = c .before in
-    let t = n .before .before .before .before in
+    let n = c .before .before .before in
+    let t = n .before .before .before .before .before .before in
     handed-more (t .before .loop .inv) (t .loop-test .taken) (n .number-in .ensures .0) (n .number-in .ensures .1)
-    (n .before .amount-in .ensures .0) (c .share-of .ensures)
+    (n .before .amount-in .ensures .0) (c .before .before .share-of .ensures)
 
 returns-2 : tie.Need-returns-2 Inv-loop μ-loop
 returns-2 c = handed-end (c .before .loop .inv) (c .loop-test .left)
@@ -78,7 +77,7 @@ hand-out-spec =
     share-of-requires
     mul-given
     array-set-from-given
-    add-ahead
+    add-t13
     add-i
     loop-less
     loop-again

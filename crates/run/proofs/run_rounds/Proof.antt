@@ -8,14 +8,14 @@ use lib.ListN.{length, take, drop, length-take, length-drop, length-set}
 use borrow.Author.Tests.{not-true, not-false}
 use borrow.Rule.Slice.PartMut.{same-len-mid}
 use Rattle.book.specs.Filed.{filedIn, remainingIn}
-use Rattle.laws.proofs.Rounds.{live}
-use Rattle.rounds.specs.Rounds.{handedBack, withPlaces}
+use Rattle.claims.proofs.Rounds.{live}
+use Rattle.round.specs.HandedBack.{handedBack, withPlaces}
 use Rattle.rules.proofs.Tests.{tests}
 use Rattle.rules.specs.Limits.{standing}
-use Rattle.rules.specs.Opening.{roundOver, roundSpace}
+use Rattle.rules.specs.Opening.{roundOf, roundSpace}
 use Rattle.rules.specs.declared.Order.{Order}
 use Rattle.run.proofs.Accepted.{few-of-sheet}
-use Rattle.run.proofs.Places.{startIn}
+use Rattle.run.proofs.Places.{rulesStart}
 use Rattle.run.proofs.Running.{Opens, round-ranged, Running, running-none, last-fits, room, few-run, few-words, space-long, round-fits, with-round, running-on, fewer-left, ran}
 use Rattle.run.specs.Accepted.{AcceptedAs}
 use Rattle.run.proofs.run_rounds.Statement.{statement}
@@ -27,7 +27,7 @@ Inv-loop heading space₀ count size buys bids sells asks start₀ at₀ rounds�
     → Running ws heading space₀ space start at rounds
 
 abbrev μ-loop : tie.MeasureT-loop
-μ-loop heading space₀ count size buys bids sells asks start₀ at₀ rounds₀ space start at rounds = live (startIn heading start)
+μ-loop heading space₀ count size buys bids sells asks start₀ at₀ rounds₀ space start at rounds = live (rulesStart heading start)
 
 -- where the function began, and the round that is run
 abbrev begin : tie.At-loop Inv-loop μ-loop → tie.Start Inv-loop μ-loop
@@ -60,7 +60,7 @@ given : (c : tie.After-round-of Inv-loop μ-loop) {ws : List ℕ} {orders : List
     → Opens ws (begin (at-round c) .args .heading) orders (at-round c .before .first-start .result) (at-round c .before .before .before .before .book-of .result)
     → handedBack (c .round-of .result)
     ≡ withPlaces
-    (roundOver (begin (at-round c) .args .heading) (at-round c .loop .start .last .0)
+    (roundOf (begin (at-round c) .args .heading) (at-round c .loop .start .last .0)
     (standing (begin (at-round c) .args .heading) (filedIn (begin (at-round c) .args .heading) orders)
     (remainingIn (begin (at-round c) .args .heading) (at-round c .loop .start .remaining))))
 given c {ws} {orders} o = c .round-of .ensures _ (o .book .buy) (o .book .sell) (round-ranged (o .accepted) (at-round c .loop .inv ws orders o))

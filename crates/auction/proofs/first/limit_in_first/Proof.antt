@@ -1,30 +1,42 @@
--- `limit_in_first` meets its contract: a number that no order has and an order that is no Stepper are refused, a Stepper stands where its side's
--- line says.
-use mathlib.Core.Path.{refl}
-use native.Mathlib.Omega.{arith}
+-- `limit_in_first` meets its contract: a refused sheet refuses the call, so do a number that no order has and an order that is no Stepper, and a
+-- Stepper stands where its side's line says.
+use Rattle.auction.proofs.FirstRound.{no-such-order, no-stepper, stepper-stands, accepted-as, of-sheet, limit-refused}
+use Rattle.run.proofs.Accepted.{few-of-sheet}
+use borrow.Author.Tests.{not-true, not-false}
+use mathlib.Core.Path.{sym, _∙_}
 use lib.ListN.{length-take}
+use native.Mathlib.Omega.{arith}
 use borrow.Author.Needs.{needs}
-use Rattle.auction.proofs.FirstRound.{no-such-order, no-stepper, stepper-stands}
 use Rattle.auction.proofs.first.limit_in_first.Statement.{statement}
 use Rattle.auction.proofs.first.limit_in_first.Tie as tie
+use Rattle.auction.proofs.first.first_line.Reads as first-line-reads
+use Rattle.auction.proofs.first.is_stepper.Reads as is-stepper-reads
+use Rattle.lines.proofs.keys.price_at.Reads as price-at-reads
+use Rattle.lines.proofs.line.place_of_order.Reads as place-of-order-reads
 
-returns : tie.Need-returns
-returns c = λ ws a. no-such-order a _ (omega arith)
-
-mul-found : tie.Need-mul-found
-mul-found c = search needs
-
-array-copy-out-found : tie.Need-array-copy-out-found
-array-copy-out-found c = search needs
+enum-known-checked : tie.Need-enum-known-checked
+enum-known-checked c = search needs
 
 enum-told : tie.Need-enum-told
 enum-told c = search needs
 
-enum-told-2 : tie.Need-enum-told-2
-enum-told-2 c = search needs
+returns : tie.Need-returns
+returns c = λ ws reads. no-such-order (accepted-as ws reads (c .before .before .enum-told .given .1)) _ (c .if1 .taken)
 
-enum-told-3 : tie.Need-enum-told-3
-enum-told-3 c = search needs
+mul-found : tie.Need-mul-found
+mul-found c = omega (arith, c .if1 .left, few-of-sheet (of-sheet (c .before .before .before .before .before .before .pre) (c .before .before .enum-told .given .1)))
+
+array-copy-out-found : tie.Need-array-copy-out-found
+array-copy-out-found c = omega (arith, c .if1 .left, few-of-sheet (of-sheet (c .before .before .before .before .before .before .pre) (c .before .before .enum-told .given .1)))
+
+is-stepper-requires : tie.Need-is-stepper-requires
+is-stepper-requires c κs = search needs
+
+returns-2 : tie.Need-returns-2
+returns-2 c =
+    λ ws reads.
+    no-stepper (accepted-as ws reads (c .before .before .before .before .before .enum-told .given .1)) _ (c .before .before .before .if1 .left)
+    (sym (c .before .is-stepper .ensures) ∙ not-true _ (c .if2 .taken))
 
 slice-aggregate-first-line : tie.Need-slice-aggregate-first-line
 slice-aggregate-first-line c = search needs
@@ -44,34 +56,32 @@ place-of-order-requires c κs = search needs
 price-at-requires : tie.Need-price-at-requires
 price-at-requires c κs = search needs
 
-returns-2 : tie.Need-returns-2
-returns-2 c = λ ws a. no-stepper a _ (c .before .before .before .if1 .left) (c .enum-told .given .1) refl
-
 returns-3 : tie.Need-returns-3
-returns-3 c = λ ws a. no-stepper a _ (c .before .before .before .if1 .left) (c .enum-told2 .given .1) refl
+returns-3 c = λ ws reads. limit-refused ws reads (c .before .checked .given .1) _
 
 returns-4 : tie.Need-returns-4
 returns-4 c =
-    λ ws a.
-    stepper-stands a _ (c .before .before .before .before .before .before .before .before .before .if1 .left) (c .before .before .before .before .before .before .enum-told3 .given .1)
+    λ ws reads.
+    let a = accepted-as ws reads (c .before .before .before .before .before .before .before .before .before .before .before .enum-told .given .1) in
+    stepper-stands a _ (c .before .before .before .before .before .before .before .before .before .if1 .left) (sym (c .before .before .before .before .before .before .before .is-stepper .ensures) ∙ not-false _ (c .before .before .before .before .before .before .if2 .left))
     (c .before .place-of-order .ensures _ _ (c .before .before .before .before .first-line .ensures .2 ws a)) (c .price-at .ensures)
 
 pub limit-in-first-spec : {M : Type 1} → statement M
 limit-in-first-spec =
     tie.close
     (tie.spec
+    enum-known-checked
+    enum-told
     returns
     mul-found
     array-copy-out-found
-    enum-told
-    enum-told-2
-    enum-told-3
+    is-stepper-requires
+    returns-2
     slice-aggregate-first-line
     first-line-requires
     array-share-prefix-line
     slice-aggregate-place-of-order
     place-of-order-requires
     price-at-requires
-    returns-2
     returns-3
     returns-4)

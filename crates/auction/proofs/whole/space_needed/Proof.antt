@@ -1,6 +1,6 @@
 -- `space_needed` meets its contract: of at most 120 orders the number is small.
 use native.Mathlib.Omega.{arith}
-use Rattle.laws.proofs.Bounds.{most-space}
+use Rattle.claims.proofs.Bounds.{most-space}
 use borrow.Author.Needs.{needs}
 use Rattle.auction.proofs.whole.space_needed.Statement.{statement}
 use Rattle.auction.proofs.whole.space_needed.Tie as tie

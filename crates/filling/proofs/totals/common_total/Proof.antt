@@ -12,16 +12,16 @@ use Rattle.filling.proofs.totals.common_total.Statement.{statement}
 use Rattle.filling.proofs.totals.common_total.Tie as tie
 
 abbrev Inv-loop : tie.InvT-loop
-Inv-loop bids asks most buy sell₀ sell = Walks bids asks buy sell
+Inv-loop bids asks buy sell₀ sell = Walks bids asks buy sell
 
 abbrev μ-loop : tie.MeasureT-loop
-μ-loop bids asks most buy sell₀ sell = sell .total
+μ-loop bids asks buy sell₀ sell = sell .total .0
 
 abbrev Inv-walk : tie.InvT-walk
-Inv-walk bids asks most buy₀ sell₀ buy sell = Walks bids asks buy sell
+Inv-walk bids asks buy₀ sell₀ buy sell = Walks bids asks buy sell
 
 abbrev μ-walk : tie.MeasureT-walk
-μ-walk bids asks most buy₀ sell₀ buy sell = buy .total
+μ-walk bids asks buy₀ sell₀ buy sell = buy .total .0
 
 pieces-at-requires : tie.Need-pieces-at-requires Inv-loop μ-loop Inv-walk μ-walk
 pieces-at-requires c κs = search tests
@@ -57,7 +57,7 @@ loop-holds : tie.Need-loop-holds Inv-loop μ-loop Inv-walk μ-walk
 loop-holds c = c .walk .inv
 
 reached-from-requires-3 : tie.Need-reached-from-requires-3 Inv-loop μ-loop Inv-walk μ-walk
-reached-from-requires-3 c κs = let w = c .before .before .before .before .before .before .loop .inv in (w .sold .within, w .sold .sum)
+reached-from-requires-3 c κs = let w = c .before .before .before .before .before .before .loop .inv in (w .sold .within, w .sold .is)
 
 loop-less : tie.Need-loop-less Inv-loop μ-loop Inv-walk μ-walk
 loop-less c = omega (arith, c .reached-from3 .ensures .low, c .before .before .before .before .if1 .taken, c .before .if2 .left)
@@ -68,7 +68,7 @@ loop-again c =
     sell-steps (t .before .before .before .loop .inv) (t .if1 .taken) (c .reached-from3 .ensures)
 
 reached-from-requires-4 : tie.Need-reached-from-requires-4 Inv-loop μ-loop Inv-walk μ-walk
-reached-from-requires-4 c κs = let w = c .before .before .before .loop .inv in (w .bought .within, w .bought .sum)
+reached-from-requires-4 c κs = let w = c .before .before .before .loop .inv in (w .bought .within, w .bought .is)
 
 walk-less : tie.Need-walk-less Inv-loop μ-loop Inv-walk μ-walk
 walk-less c = omega (arith, c .reached-from4 .ensures .low, c .before .if1 .left)
@@ -79,7 +79,7 @@ walk-again c =
     buy-steps (t .before .before .before .loop .inv) (omega (arith, t .if1 .left)) (c .reached-from4 .ensures)
 
 returns : tie.Need-returns Inv-loop μ-loop Inv-walk μ-walk
-returns c = walk-ends (c .before .before .before .before .before .before .loop .inv) (c .if2 .taken)
+returns c = walk-ends (c .before .before .before .before .before .before .before .loop .inv) (c .before .if2 .taken)
 
 pub common-total-spec : {M : Type 1} → statement M
 common-total-spec =

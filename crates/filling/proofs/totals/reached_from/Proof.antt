@@ -8,10 +8,10 @@ use Rattle.filling.proofs.totals.reached_from.Statement.{statement}
 use Rattle.filling.proofs.totals.reached_from.Tie as tie
 
 abbrev Inv-loop : tie.InvT-loop
-Inv-loop queue orders sum total i₀ upto₀ i upto = Down queue orders total i upto
+Inv-loop queue orders total i₀ upto₀ i upto = Down queue orders (total .0) i (upto .0)
 
 abbrev μ-loop : tie.MeasureT-loop
-μ-loop queue orders sum total i₀ upto₀ i upto = i
+μ-loop queue orders total i₀ upto₀ i upto = i
 
 loop-holds : tie.Need-loop-holds Inv-loop μ-loop
 loop-holds c = down-none _ (c .before .pre .0) (c .before .pre .1)
@@ -28,27 +28,27 @@ shared-slice-read-entry c = let t = c .before in omega (arith, t .before .loop .
 amount-in-requires : tie.Need-amount-in-requires Inv-loop μ-loop
 amount-in-requires c κs = search tests
 
-sub-before : tie.Need-sub-before Inv-loop μ-loop
-sub-before c = let t = c .before .before in down-room (t .before .loop .inv) (t .loop-test .taken) (c .amount-in .ensures .0)
+sub-t14 : tie.Need-sub-t14 Inv-loop μ-loop
+sub-t14 c = let t = c .before .before .before in down-room (t .before .loop .inv) (t .loop-test .taken) (c .before .amount-in .ensures .0)
 
 splits-requires : tie.Need-splits-requires Inv-loop μ-loop
 splits-requires c κs = search tests
 
-sub-t15 : tie.Need-sub-t15 Inv-loop μ-loop
-sub-t15 c = search tests
+sub-t16 : tie.Need-sub-t16 Inv-loop μ-loop
+sub-t16 c = search tests
 
 returns : tie.Need-returns Inv-loop μ-loop
 returns c =
     let f = c .before .before in
-    let t = f .before .before .before in
-    down-splits (t .before .loop .inv) (t .loop-test .taken) (f .before .amount-in .ensures .0) (f .if1 .taken)
+    let t = f .before .before .before .before .before .before in
+    down-splits (t .before .loop .inv) (t .loop-test .taken) (f .before .before .before .before .amount-in .ensures .0) (f .if1 .taken)
     (sym (c .before .splits .ensures) ∙ c .if2 .taken)
 
 returns-2 : tie.Need-returns-2 Inv-loop μ-loop
 returns-2 c =
     let f = c .before .before in
-    let t = f .before .before .before in
-    down-stays (t .before .loop .inv) (t .loop-test .taken) (f .before .amount-in .ensures .0) (f .if1 .taken)
+    let t = f .before .before .before .before .before .before in
+    down-stays (t .before .loop .inv) (t .loop-test .taken) (f .before .before .before .before .amount-in .ensures .0) (f .if1 .taken)
     (sym (c .before .splits .ensures) ∙ c .if2 .left)
 
 sub-i : tie.Need-sub-i Inv-loop μ-loop
@@ -59,8 +59,8 @@ loop-less c = search tests
 
 loop-again : tie.Need-loop-again Inv-loop μ-loop
 loop-again c =
-    let t = c .before .before .before in
-    down-more (t .before .loop .inv) (t .loop-test .taken) (c .before .amount-in .ensures .0) (c .if1 .left)
+    let t = c .before .before .before .before .before .before in
+    down-more (t .before .loop .inv) (t .loop-test .taken) (c .before .before .before .before .amount-in .ensures .0) (c .if1 .left)
 
 returns-3 : tie.Need-returns-3 Inv-loop μ-loop
 returns-3 c = down-all (c .before .loop .inv) (omega (arith, c .loop-test .left))
@@ -76,9 +76,9 @@ reached-from-spec =
     mul-entry
     shared-slice-read-entry
     amount-in-requires
-    sub-before
+    sub-t14
     splits-requires
-    sub-t15
+    sub-t16
     returns
     returns-2
     sub-i

@@ -4,7 +4,6 @@ use mathlib.Core.Path.{sym, _∙_}
 use Prim.Native.Nat.{_+_, _-_}
 use native.Mathlib.Omega.{arith}
 use lib.ListN.{length}
-use Rattle.lines.proofs.Standing.{gone-room}
 use Rattle.rules.proofs.Tests.{tests}
 use Rattle.pricing.proofs.Meeting.{Both, both-meet, one-passed, Walked, walked-none, walked-more, walked-all}
 use Rattle.pricing.proofs.meet.meet.Statement.{statement}
@@ -43,7 +42,7 @@ add-demand : tie.Need-add-demand Inv-loop μ-loop
 add-demand c =
     let t = c .before .before in
     let walk = t .before .before in
-    omega (arith, gone-room (walk .loop .inv .buy), there t .buy, walk .before .before .before .pre .0, c .amount-in .ensures .1)
+    omega (arith, walk .loop .inv .buy .most, there t .buy, walk .before .before .before .pre .0, c .amount-in .ensures .1)
 
 mul-amount-in-2 : tie.Need-mul-amount-in-2 Inv-loop μ-loop
 mul-amount-in-2 c = search tests
@@ -58,7 +57,7 @@ add-supply : tie.Need-add-supply Inv-loop μ-loop
 add-supply c =
     let t = c .before .before .before .before in
     let walk = t .before .before in
-    omega (arith, gone-room (walk .loop .inv .sell), there t .sell, walk .before .before .before .pre .1, c .amount-in2 .ensures .1)
+    omega (arith, walk .loop .inv .sell .most, there t .sell, walk .before .before .before .pre .1, c .amount-in2 .ensures .1)
 
 smaller-requires : tie.Need-smaller-requires Inv-loop μ-loop
 smaller-requires c κs = search tests

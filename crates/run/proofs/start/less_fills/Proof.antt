@@ -1,22 +1,22 @@
--- `less_fills` meets its contract. The invariant, `Placed`: in the first k places the fills have come off. The measure is the number of places
+-- `less_fills` meets its contract. The invariant, `Painted`: in the first k places the fills have come off. The measure is the number of places
 -- left.
-use mathlib.Core.Path.{ap}
+use mathlib.Core.Path.{refl, ap}
 use Prim.Native.Nat.{ℕ, _-_}
 use Rattle.lines.specs.Pieces.{piecesOf}
+use Rattle.rules.proofs.Painting.{Painted, painted-none, painted-more, painted-all}
 use Rattle.rules.proofs.Tests.{tests}
-use Rattle.run.proofs.Places.{Placed, placed-none, placed-more, placed-all}
 use Rattle.run.specs.Starts.{lessFills}
 use Rattle.run.proofs.start.less_fills.Statement.{statement}
 use Rattle.run.proofs.start.less_fills.Tie as tie
 
 abbrev Inv-loop : tie.InvT-loop
-Inv-loop remaining fills left₀ k₀ left k = Placed (λ j. record { 0 = piecesOf remaining j - piecesOf fills j }) left k
+Inv-loop remaining fills left₀ k₀ left k = Painted (λ j. record { 0 = piecesOf remaining j - piecesOf fills j }) left₀ left k
 
 abbrev μ-loop : tie.MeasureT-loop
 μ-loop remaining fills left₀ k₀ left k = 120 - k
 
 loop-holds : tie.Need-loop-holds Inv-loop μ-loop
-loop-holds c = placed-none _
+loop-holds c = painted-none _ _
 
 mul-left-of : tie.Need-mul-left-of Inv-loop μ-loop
 mul-left-of c = search tests
@@ -47,12 +47,12 @@ loop-less c = search tests
 
 loop-again : tie.Need-loop-again Inv-loop μ-loop
 loop-again c =
-    placed-more (c .before .before .before .before .loop .inv) (c .before .before .before .loop-test .taken)
+    painted-more (c .before .before .before .before .loop .inv) (record { 0 = 0 }) (c .before .before .before .loop-test .taken)
     (ap (λ (left : ℕ). record { 0 = left }) (c .left-of .ensures))
 
 returns : tie.Need-returns Inv-loop μ-loop
 unfolding lessFills
-returns c = placed-all (c .before .loop .inv) (c .loop-test .left)
+returns c = painted-all (c .before .loop .inv) refl (c .loop-test .left)
 
 pub less-fills-spec : {M : Type 1} → statement M
 less-fills-spec =

@@ -7,8 +7,8 @@ use Prim.Native.Nat.{ℕ}
 use lib.Dec.{ltb}
 use lib.ListN.{length}
 use borrow.Author.Needs.{needs}
-use Rattle.rules.specs.Sheet.{headingOf, headingChecks}
-use Rattle.rules.proofs.Downwards.{Clear, here, there, passed, nothing-left}
+use Rattle.rules.specs.Sheet.{headingWords, headingOf, headingChecks}
+use Rattle.rules.proofs.Downwards.{Clear, here, there, passed, nothing-left, says-nothing, says-refused}
 use Rattle.rules.proofs.Tests.{tests}
 use Rattle.sheet.specs.Steps.{headingWordsOf, wrongKinds, wrongPrices, wrongLength}
 use Rattle.sheet.specs.declared.heading.HeadingWords.{HeadingWords}
@@ -18,7 +18,7 @@ use Rattle.sheet.proofs.heading.read_heading.Tie as tie
 
 returns : tie.Need-returns
 unfolding headingChecks
-returns c = here (search tests)
+returns c = says-refused _ (here (search tests))
 
 read-heading-words-requires : tie.Need-read-heading-words-requires
 read-heading-words-requires c κs = search needs
@@ -46,7 +46,7 @@ module _ (c : tie.After-wrong-length) where
   heading : c .before .before .before .heading-from .result ≡ headingOf words
   heading = headed words five (c .before .before .before .heading-from .ensures)
 
-  few : ltb (length words) 5 ≡ false
+  few : ltb (length words) headingWords ≡ false
   few = search tests
 
   kinds : {r : Bool} → c .before .before .wrong-kinds .result ≡ r → wrongKinds (headingWordsOf words) ≡ r
@@ -60,22 +60,23 @@ module _ (c : tie.After-wrong-length) where
 
 returns-2 : tie.Need-returns-2
 unfolding headingChecks
-returns-2 c = let d = c .before in there (few d) (here (kinds d (c .if2 .taken)))
+returns-2 c = let d = c .before in says-refused _ (there (few d) (here (kinds d (c .if2 .taken))))
 
 returns-3 : tie.Need-returns-3
 unfolding headingChecks
 returns-3 c =
     let d = c .before .before in
-    there (few d) (there (kinds d (c .before .if2 .left)) (here (prices d (c .if3 .taken))))
+    says-refused _ (there (few d) (there (kinds d (c .before .if2 .left)) (here (prices d (c .if3 .taken)))))
 
 returns-4 : tie.Need-returns-4
 unfolding headingChecks
 returns-4 c =
     let d = c .before .before .before in
-    there (few d)
+    says-refused _
+    (there (few d)
     (there (kinds d (c .before .before .if2 .left))
     (there (prices d (c .before .if3 .left))
-    (here (lengths d (c .if4 .taken)))))
+    (here (lengths d (c .if4 .taken))))))
 
 clear : (c : tie.Else4) → Clear (headingChecks (words (c .before .before .before)))
 unfolding headingChecks
@@ -89,7 +90,7 @@ clear c =
 returns-5 : tie.Need-returns-5
 returns-5 c =
     let d = c .before .before .before .before in
-    (clear (c .before), heading d, ap (λ (f : HeadingWords). f .next .at) (five d))
+    (says-nothing _ (clear (c .before)), heading d, ap (λ (f : HeadingWords). f .next .at) (five d))
 
 pub read-heading-spec : {M : Type 1} → statement M
 read-heading-spec =

@@ -1,7 +1,7 @@
 -- `read_words` meets its contract. The invariant, `Painted`: the first i words are read, the others as they were. The measure is the
 -- number of words left.
 use Prim.Native.Nat.{_-_}
-use Rattle.rounds.proofs.Written.{Painted, painted-none, painted-more, painted-length, painted-all}
+use Rattle.rules.proofs.Painting.{Painted, painted-none, painted-more, painted-length, painted-all}
 use Rattle.rules.proofs.Tests.{tests}
 use Rattle.rules.specs.Listing.{wordIn, sheetIn}
 use lib.ListN.{length}
@@ -36,7 +36,7 @@ loop-less c = let long = painted-length (c .before .before .loop .inv) in omega 
 loop-again : tie.Need-loop-again Inv-loop μ-loop
 loop-again c =
     let long = painted-length (c .before .before .loop .inv) in
-    painted-more (c .before .before .loop .inv) (omega arith) (c .word-in .ensures)
+    painted-more (c .before .before .loop .inv) 0 (omega arith) (c .word-in .ensures)
 
 same-length : tie.Need-same-length Inv-loop μ-loop
 same-length c = painted-length (c .before .loop .inv)

@@ -10,8 +10,8 @@ number-requires c κs = search needs
 cast-write-refused : tie.Need-cast-write-refused
 cast-write-refused c = search needs
 
-order-requires : tie.Need-order-requires
-order-requires c κs = search needs
+place-requires : tie.Need-place-requires
+place-requires c κs = search needs
 
 write-refused-requires : tie.Need-write-refused-requires
 write-refused-requires c κs = search needs
@@ -24,7 +24,7 @@ unfolding printedAnswer
 returns c =
     let wrote = c .before .before in
     let order = wrote .before .before in
-    rw (← order .before .number .ensures, ← order .order .ensures) (wrote .write-refused .ensures)
+    rw (← order .before .number .ensures, ← order .place .ensures) (wrote .write-refused .ensures)
 
 pub write-refusal-spec : {M : Type 1} → statement M
 write-refusal-spec =
@@ -32,7 +32,7 @@ write-refusal-spec =
     (tie.spec
     number-requires
     cast-write-refused
-    order-requires
+    place-requires
     write-refused-requires
     same-length
     returns)

@@ -1,0 +1,73 @@
+-- What the two calls that write promise beyond the rules' answer follows from that answer. The words in front of the space are those of
+-- the rules, and they say what the rounds are: so what is claimed of the rules' rounds holds of the words that stand there.
+use mathlib.Core.List.{List, [], _++_}
+use mathlib.Core.Path.{_≡_, ap, _∙_}
+use Prim.Native.Nat.{ℕ, _≤_}
+use native.Mathlib.Omega.{arith}
+use lib.ListN.{length, drop}
+use Rattle.claims.proofs.Demand3Holds.{demand3-holds}
+use Rattle.claims.proofs.Opening.{fills-count, number-fits}
+use Rattle.claims.proofs.ReadBack.{read-back}
+use Rattle.claims.proofs.RoundHolds.{round-holds}
+use Rattle.claims.proofs.Run.{startAt}
+use Rattle.claims.specs.Calls.{FirstRound, Opened}
+use Rattle.claims.specs.Fills.{Largest}
+use Rattle.claims.specs.Fits.{FitsWords}
+use Rattle.rules.proofs.Accepted.{accepted-sound, enough-words}
+use Rattle.rules.specs.Answers.{Answer, gives}
+use Rattle.rules.specs.Calls.{firstRound, opening, firstStanding, answerBy, answer, spaceAfter, Writes, wordsGiven}
+use Rattle.rules.specs.Opening.{Round, roundFrom, firstStart, roundWords, openingWords, roundSpace, openingSpace}
+use Rattle.rules.specs.Result.{count, roundSaid, auctionIn}
+use Rattle.rules.specs.Sheet.{headingOf, AcceptedSheet}
+
+-- the first round of a sheet, by the rules
+abbrev pub roundOne : List ℕ → Round
+roundOne ws = roundFrom ws (firstStart ws)
+
+-- ---- An accepted sheet
+
+module _ (ws : List ℕ) (accepted : AcceptedSheet ws) where
+  pub fills-first : length (roundOne ws .fills) ≡ count ws
+  unfolding startAt
+  fills-first = fills-count ws 0
+
+  pub first-fits : FitsWords (roundOne ws)
+  unfolding startAt
+  first-fits = number-fits ws (accepted-sound ws accepted) 0
+
+  -- the words in front of a space say what the first round is
+  first-said : (rest : List ℕ) → roundSaid ws (roundWords (roundOne ws) ++ rest) 0 ≡ roundOne ws
+  first-said rest = read-back ws [] rest 0 (roundOne ws) (omega arith) fills-first first-fits
+
+  first-largest : Largest (headingOf ws) (auctionIn (roundOne ws)) (firstStanding ws) (roundOne ws .fills)
+  unfolding firstStanding
+  first-largest = round-holds ws (accepted-sound ws accepted) (firstStart ws) .filled
+
+  -- what the two calls answer where the space has the words
+  pub round-given : {size : ℕ} → roundSpace (count ws) ≤ size → answer (firstRound ws size) ≡ gives (roundWords (roundOne ws))
+  unfolding answer answerBy
+  round-given enough = enough-words ws accepted (roundWords (roundOne ws)) enough
+
+  pub opening-given : {size : ℕ} → openingSpace (count ws) ≤ size → answer (opening ws size) ≡ gives (openingWords ws)
+  unfolding answer answerBy openingWords
+  opening-given enough = enough-words ws accepted (openingWords ws) enough
+
+-- ---- The calls
+
+module _ {ws before after : List ℕ} {answered : Answer} where
+  pub first-round-holds : Writes (firstRound ws (length before)) before after answered → FirstRound ws before after answered
+  first-round-holds writes = record {
+    writes = writes;
+    filled = λ accepted enough.
+        let rest : List ℕ = drop (length (roundWords (roundOne ws))) before in
+        let stands : after ≡ roundWords (roundOne ws) ++ rest =
+        writes .holds ∙ ap (λ (a : Answer). spaceAfter a before) (round-given ws accepted enough) in
+        rw (stands, first-said ws accepted rest) (first-largest ws accepted);
+  }
+
+  pub opening-holds : Writes (opening ws (length before)) before after answered → Opened ws before after answered
+  opening-holds writes = record {
+    writes = writes;
+    demand3 = λ accepted enough.
+        rw (ap wordsGiven (writes .answers ∙ opening-given ws accepted enough)) (demand3-holds ws accepted);
+  }

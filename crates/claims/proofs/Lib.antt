@@ -1,0 +1,25 @@
+-- Laws that follow from the rules.
+pub mod Best
+pub mod Curves
+pub mod Spans
+pub mod Sums
+pub mod Places
+pub mod PiecePlaces
+pub mod Rivals
+pub mod Crossing
+pub mod Priority
+pub mod Ranks
+pub mod Handed
+pub mod Totals
+pub mod Fills
+pub mod UsesUp
+pub mod Rounds
+pub mod Bounds
+pub mod ReadBack
+pub mod PriceHolds
+pub mod RoundHolds
+pub mod Run
+pub mod Opening
+pub mod Demand3Holds
+pub mod NothingOpen
+pub mod CallsHold

@@ -1,0 +1,13 @@
+-- What a round must be to have room in its result words; no claim.
+use Prim.Native.Nat.{ℕ, _<_}
+use lib.ListN.{length}
+use Rattle.rules.specs.Fills.{fillOf}
+use Rattle.rules.specs.Opening.{Round}
+
+-- Each value of a round fits the low 28 bits of a word.
+pub record FitsWords (r : Round) : Type 0 where
+  pub situation : r .situation < 0x1000_0000
+  pub price : r .price < 0x1000_0000
+  pub purchase : r .purchase < 0x1000_0000
+  pub total : r .total < 0x1000_0000
+  pub fills : (k : ℕ) → k < length (r .fills) → fillOf (r .fills) k < 0x1000_0000

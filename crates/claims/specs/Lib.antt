@@ -1,0 +1,11 @@
+-- What is claimed of a result, beyond what the rules say it is: F1–F4 and the largest fills, the auction price against other prices,
+-- demand 3, and what the two calls that write promise. Each claim is a theorem in proofs/.
+pub mod Fills
+pub mod Price
+pub mod Demand3
+pub mod Calls
+-- Words in which the laws and the engine's promises speak; they claim nothing.
+pub mod Orders
+pub mod Places
+pub mod Crossing
+pub mod Fits

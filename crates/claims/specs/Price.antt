@@ -1,0 +1,51 @@
+-- The auction price against the other prices of a round: the potential prices run without gaps, where some price carries pieces no
+-- price carries more than the auction price, and of the prices from l to r none is nearer the last purchase price.
+use mathlib.Core.Bool.{true, false}
+use mathlib.Core.List.{List}
+use mathlib.Core.Logic.{_↔_}
+use mathlib.Core.Option.{some}
+use mathlib.Core.Path.{_≡_}
+use Prim.Native.Nat.{ℕ, _+_, _-_, _≤_, _<_}
+use Rattle.rules.specs.AuctionPrice.{inBand, Level, level, carries, potential, a, b, l, r}
+use Rattle.rules.specs.Grid.{onGrid, Scan, overGrid}
+use Rattle.rules.specs.declared.Heading.{Heading}
+use Rattle.rules.specs.declared.Standing.{Standing}
+
+-- The prices of a round: the whole grid, by level.
+abbrev pub levels : Heading → List Standing → Scan Level
+levels h os = overGrid (level h os)
+
+-- The potential prices run without gaps from a to b.
+pub record NoGaps (h : Heading) (os : List Standing) : Type 0 where
+  pub first : ℕ
+  pub last : ℕ
+  pub from : a (levels h os) ≡ some first
+  pub to : b (levels h os) ≡ some last
+  -- a price of the grid is a potential price exactly when it lies from a to b
+  pub between : (p : ℕ) → onGrid p ≡ true
+      → ((potential (levels h os) (level h os p) ≡ true) ↔ ((first ≤ p) × (p ≤ last)))
+
+-- The auction price against every price of the grid, in a round where some price carries pieces.
+pub record BestPrice (h : Heading) (os : List Standing) (price : ℕ) : Type 0 where
+  -- no price carries more than the auction price
+  pub most : (p : ℕ) → onGrid p ≡ true → carries h os p ≤ carries h os price
+  -- it lies outside the band exactly when no price inside carries as many
+  pub outside : (inBand h price ≡ false)
+      ↔ ((p : ℕ) → onGrid p ≡ true → inBand h p ≡ true → carries h os p < carries h os price)
+
+-- How far two prices lie apart.
+abbrev pub distance : ℕ → ℕ → ℕ
+distance p q = (p - q) + (q - p)
+
+-- The auction price among the prices from l to r, in such a round, after a last purchase price.
+pub record Nearest (h : Heading) (os : List Standing) (last price : ℕ) : Type 0 where
+  pub first : ℕ
+  pub final : ℕ
+  pub from : l (levels h os) ≡ some first
+  pub to : r (levels h os) ≡ some final
+  -- l is at most r
+  pub run : first ≤ final
+  -- the auction price lies there
+  pub within : (first ≤ price) × (price ≤ final)
+  -- and no price there is nearer the last purchase price
+  pub none-nearer : (p : ℕ) → first ≤ p → p ≤ final → distance price last ≤ distance p last

@@ -1,1 +1,0 @@
--- Laws say nothing that a reader has to believe: no definition stands here.

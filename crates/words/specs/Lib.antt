@@ -1,0 +1,1 @@
+-- The words of a list are those of `Words` in the rules.
