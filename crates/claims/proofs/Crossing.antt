@@ -281,57 +281,57 @@ module _ (h : Heading) (os : List Standing) where
   bandHas = found (highest (levels h os) (λ v. v .within && maximiser (levels h os) v))
 
   -- the maximisers run from a to b
-  abbrev pub a : ℕ
-  a = limitOf Sell top
+  abbrev pub lowestMaximiser : ℕ
+  lowestMaximiser = limitOf Sell top
 
-  abbrev pub b : ℕ
-  b = limitOf Buy top
+  abbrev pub highestMaximiser : ℕ
+  highestMaximiser = limitOf Buy top
 
-  pub maximisers-run : a ≤ b
-  maximisers-run = leb-true a b (sym (crosses top) ∙ le-leb top top (le-refl top))
+  pub maximisers-run : lowestMaximiser ≤ highestMaximiser
+  maximisers-run = leb-true lowestMaximiser highestMaximiser (sym (crosses top) ∙ le-leb top top (le-refl top))
 
-  band-has : bandHas ≡ leb (max (D h) a) (min (H h) b)
+  band-has : bandHas ≡ leb (max (D h) lowestMaximiser) (min (H h) highestMaximiser)
   unfolding overGrid spanEnd
   band-has =
       ap found
       (best-of-span (both-span band-span maximisers) (omega (arith, sells-limit os top)) (omega (arith, buys-limit os top)) Buy)
-      ∙ found-if (leb (max (D h) a) (min (H h) b)) (min (H h) b)
+      ∙ found-if (leb (max (D h) lowestMaximiser) (min (H h) highestMaximiser)) (min (H h) highestMaximiser)
     where
       found-if : (t : Bool) (p : ℕ) → found (cond t (some p) none) ≡ t
       found-if true p = refl
       found-if false p = refl
 
   -- the potential prices are the maximisers in the band, or all if it has none
-  pub some-in-band : max (D h) a ≤ min (H h) b → PotentialFrom (max (D h) a) (min (H h) b)
+  pub some-in-band : max (D h) lowestMaximiser ≤ min (H h) highestMaximiser → PotentialFrom (max (D h) lowestMaximiser) (min (H h) highestMaximiser)
   some-in-band l = record {
     first = omega (arith, sells-limit os top);
     some-price = l;
     last = omega (arith, buys-limit os top);
-    span = rw (band-has ∙ le-leb (max (D h) a) (min (H h) b) l) (both-span band-span maximisers);
+    span = rw (band-has ∙ le-leb (max (D h) lowestMaximiser) (min (H h) highestMaximiser) l) (both-span band-span maximisers);
   }
 
-  pub none-in-band : min (H h) b < max (D h) a → PotentialFrom a b
+  pub none-in-band : min (H h) highestMaximiser < max (D h) lowestMaximiser → PotentialFrom lowestMaximiser highestMaximiser
   none-in-band l = record {
     first = sells-limit os top;
     some-price = maximisers-run;
     last = buys-limit os top;
-    span = rw (band-has ∙ lt-leb (max (D h) a) (min (H h) b) l) maximisers;
+    span = rw (band-has ∙ lt-leb (max (D h) lowestMaximiser) (min (H h) highestMaximiser) l) maximisers;
   }
 
   crossed-is : (last : ℕ)
       → crossed (levels h os) last
-      ≡ record { situation = 0; price = crossedAt h a b (limitOf Buy (suc top)) (limitOf Sell (suc top)) last }
+      ≡ record { situation = 0; price = crossedAt h lowestMaximiser highestMaximiser (limitOf Buy (suc top)) (limitOf Sell (suc top)) last }
   unfolding crossedAt
   crossed-is last =
-      by-test (λ (p : ℕ). crossed (levels h os) last ≡ record { situation = 0; price = p }) (leb (max (D h) a) (min (H h) b))
-      (λ e. crossed-from (some-in-band (leb-true (max (D h) a) (min (H h) b) e)) last)
-      (λ e. crossed-from (none-in-band (leb-false (max (D h) a) (min (H h) b) e)) last)
+      by-test (λ (p : ℕ). crossed (levels h os) last ≡ record { situation = 0; price = p }) (leb (max (D h) lowestMaximiser) (min (H h) highestMaximiser))
+      (λ e. crossed-from (some-in-band (leb-true (max (D h) lowestMaximiser) (min (H h) highestMaximiser) e)) last)
+      (λ e. crossed-from (none-in-band (leb-false (max (D h) lowestMaximiser) (min (H h) highestMaximiser) e)) last)
 
   -- ---- The auction
 
   pub auction-crossed : (last : ℕ) → 0 < top
       → auction h last os
-      ≡ record { situation = 0; price = crossedAt h a b (limitOf Buy (suc top)) (limitOf Sell (suc top)) last }
+      ≡ record { situation = 0; price = crossedAt h lowestMaximiser highestMaximiser (limitOf Buy (suc top)) (limitOf Sell (suc top)) last }
   unfolding auction auctionBy
   auction-crossed last carried = rw (lt-ltb 0 top carried) (crossed-is last)
 

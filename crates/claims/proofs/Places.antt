@@ -45,10 +45,10 @@ allows-place Sell limit k on =
     same-leb limit (lastPrice + 1 - k) k (lastPrice + 1 - max limit 1) (λ h. omega arith) (λ h. omega arith)
 
 -- the place of an order among those of side s; one of the other side stands nowhere
-abbrev pub placeIn : Side → Standing → ℕ
-placeIn s o = cond (sameSide s (o .side)) (placeOf s (o .limit .0)) 0
+abbrev pub placeAmong : Side → Standing → ℕ
+placeAmong s o = cond (sameSide s (o .side)) (placeOf s (o .limit .0)) 0
 
-pub stands-place : (s : Side) (o : Standing) (k : ℕ) → OnGrid k → standsAt s (nth s k) o ≡ leb k (placeIn s o)
+pub stands-place : (s : Side) (o : Standing) (k : ℕ) → OnGrid k → standsAt s (nth s k) o ≡ leb k (placeAmong s o)
 stands-place s o k on = go (sameSide s (o .side))
   where
     go : (t : Bool) → (t && allows s (o .limit .0) (nth s k)) ≡ leb k (cond t (placeOf s (o .limit .0)) 0)

@@ -11,7 +11,7 @@ use native.Mathlib.Nat.{eq-or-lt-of-le}
 use native.Mathlib.Omega.{arith}
 use lib.Dec.{leb}
 use borrow.Author.Tests.{leb-true, leb-false, lt-leb, eqb-true, eq-eqb}
-use Rattle.claims.proofs.Crossing.{Potential, crossed-potential, buys-limit, sells-limit, volume-le, crosses, maximisers, PotentialFrom, best-potential, more-end, a, b, maximisers-run, some-in-band, none-in-band, auction-crossed}
+use Rattle.claims.proofs.Crossing.{Potential, crossed-potential, buys-limit, sells-limit, volume-le, crosses, maximisers, PotentialFrom, best-potential, more-end, lowestMaximiser, highestMaximiser, maximisers-run, some-in-band, none-in-band, auction-crossed}
 use Rattle.claims.specs.Crossing.{greatest, pieceLimit, held, balanced, crossedAt}
 use Rattle.claims.proofs.Spans.{within-true, within-is}
 use Rattle.rules.proofs.Grid.{OnGrid, on-grid, is-on-grid}
@@ -25,19 +25,19 @@ use Rattle.rules.specs.declared.Standing.{Standing}
 
 -- ---- What a potential price carries
 
-module _ (h : Heading) (os : List Standing) (price : ℕ) (potential : Potential h (a h os) (b h os) price) where
+module _ (h : Heading) (os : List Standing) (price : ℕ) (potential : Potential h (lowestMaximiser h os) (highestMaximiser h os) price) where
   on : OnGrid price
   on = (omega (arith, sells-limit os (greatest h os), potential .from), omega (arith, buys-limit os (greatest h os), potential .to))
 
   carries-greatest : carries h os price ≡ greatest h os
   carries-greatest =
       eqb-true (carries h os price) (greatest h os)
-      (maximisers h os .tells price on ∙ within-is (a h os) (b h os) price (potential .from) (potential .to))
+      (maximisers h os .tells price on ∙ within-is (lowestMaximiser h os) (highestMaximiser h os) price (potential .from) (potential .to))
 
   -- where a price of the band carries as many, it lies in the band
   in-band : (p : ℕ) → OnGrid p → inBand h p ≡ true → carries h os p ≡ greatest h os → inBand h price ≡ true
   in-band p o inside e =
-      let run = within-true (a h os) (b h os) p (sym (maximisers h os .tells p o) ∙ eq-eqb (carries h os p) (greatest h os) e) in
+      let run = within-true (lowestMaximiser h os) (highestMaximiser h os) p (sym (maximisers h os .tells p o) ∙ eq-eqb (carries h os p) (greatest h os) e) in
       let band = within-true (D h) (H h) p inside in
       potential .banded (omega arith)
 
@@ -85,9 +85,9 @@ module _ (h : Heading) (os : List Standing) where
   }
 
   pub no-gaps : NoGaps h os
-  no-gaps = go (leb (max (D h) (a h os)) (min (H h) (b h os))) refl
+  no-gaps = go (leb (max (D h) (lowestMaximiser h os)) (min (H h) (highestMaximiser h os))) refl
     where
-      go : (t : Bool) → leb (max (D h) (a h os)) (min (H h) (b h os)) ≡ t → NoGaps h os
+      go : (t : Bool) → leb (max (D h) (lowestMaximiser h os)) (min (H h) (highestMaximiser h os)) ≡ t → NoGaps h os
       go true e = run-no-gaps (some-in-band h os (leb-true _ _ e))
       go false e = run-no-gaps (none-in-band h os (leb-false _ _ e))
 
@@ -134,8 +134,8 @@ module _ (h : Heading) (os : List Standing) (last : ℕ) where
   unfolding crossedAt
   nearest-price p e some =
       rw (auction-crossed h os last (omega (arith, volume-le h os p (on-grid p e))))
-      (go (leb (max (D h) (a h os)) (min (H h) (b h os))) refl)
+      (go (leb (max (D h) (lowestMaximiser h os)) (min (H h) (highestMaximiser h os))) refl)
     where
-      go : (t : Bool) → leb (max (D h) (a h os)) (min (H h) (b h os)) ≡ t → Nearest h os last (crossedAt h (a h os) (b h os) x y last)
+      go : (t : Bool) → leb (max (D h) (lowestMaximiser h os)) (min (H h) (highestMaximiser h os)) ≡ t → Nearest h os last (crossedAt h (lowestMaximiser h os) (highestMaximiser h os) x y last)
       go true t = rw t (run-nearest (some-in-band h os (leb-true _ _ t)))
       go false t = rw t (run-nearest (none-in-band h os (leb-false _ _ t)))

@@ -258,7 +258,7 @@ module _ {bids : List ℕ} {i bought : ℕ} {asks : List ℕ} {j sold v : ℕ} (
           }
 
   pub walked-all : meetAt bids i asks j ≡ false → (h : Heading) (os : List Standing) → LineOf Buy os bids → LineOf Sell os asks
-      → MetAs h os bids asks (record { volume = v; buys = i; bought = bought; sells = j; sold = sold })
+      → MetAs h os bids asks (record { volume = record { 0 = v }; buys = i; bought = record { 0 = bought }; sells = j; sold = record { 0 = sold } })
   walked-all e h os b s =
       let m = k .met h os b s in
       record {

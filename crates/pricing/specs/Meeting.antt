@@ -26,8 +26,8 @@ pub record HoldsPiece (line : List ℕ) (i v : ℕ) : Type 0 where
 
 -- The two lines meet for the greatest volume, and the orders reached hold the next piece.
 pub record MetAs (h : Heading) (os : List Standing) (bids asks : List ℕ) (r : Met) : Type 0 where
-  pub volume : r .volume ≡ greatest h os
-  pub buy : HoldsPiece bids (r .buys) (suc (r .volume))
-  pub bought : r .bought ≡ upTo bids (r .buys)
-  pub sell : HoldsPiece asks (r .sells) (suc (r .volume))
-  pub sold : r .sold ≡ upTo asks (r .sells)
+  pub volume : r .volume .0 ≡ greatest h os
+  pub buy : HoldsPiece bids (r .buys) (suc (r .volume .0))
+  pub bought : r .bought .0 ≡ upTo bids (r .buys)
+  pub sell : HoldsPiece asks (r .sells) (suc (r .volume .0))
+  pub sold : r .sold .0 ≡ upTo asks (r .sells)

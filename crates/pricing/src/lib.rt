@@ -92,7 +92,7 @@ pub fn auction_price(heading: Heading, last: Price, bids: &[u64], asks: &[u64]) 
     let met = meet(bids, asks);
     let bid = price_at(Side::Buy, place_at(bids, met.buys));
     let ask = price_at(Side::Sell, place_at(asks, met.sells));
-    if met.volume == 0 {
+    if met.volume.0 == 0 {
         return uncrossed_price(heading, last, bid, ask);
     }
     let buyer = last_holder(met.bought, met.buys, met.volume);

@@ -19,11 +19,11 @@ use rules::Total;
 
 // The pieces that meet, the orders of both sides that hold the next one, and the pieces before those orders.
 pub(crate) struct Met {
-    pub volume: u64,
+    pub volume: Total,
     pub buys: usize,
-    pub bought: u64,
+    pub bought: Total,
     pub sells: usize,
-    pub sold: u64,
+    pub sold: Total,
 }
 
 // The place of an order of a line, 0 where there is none.
@@ -46,19 +46,19 @@ fn meets(bids: &[u64], i: usize, asks: &[u64], j: usize) -> bool
     LAST_PRICE < place_in(bids[i]) + place_in(asks[j])
 }
 
-// 1 where a number is at most another, else 0.
-fn at_most(a: u64, b: u64) -> usize
-    ensures { λ r. ⌜ (r ≡ cond (leb a b) 1 0) × (r ≤ 1) ⌝ }
+// 1 where a total is at most another, else 0.
+fn at_most(a: Total, b: Total) -> usize
+    ensures { λ r. ⌜ (r ≡ cond (leb (a .0) (b .0)) 1 0) × (r ≤ 1) ⌝ }
 {
-    if a <= b { 1 } else { 0 }
+    if a.0 <= b.0 { 1 } else { 0 }
 }
 
 // The pieces of the orders that are passed: those up to the order where the other side has as many, else
 // those before it.
-fn passed(before: u64, upto: u64, other: u64) -> u64
-    ensures { λ r. ⌜ r ≡ cond (leb upto other) upto before ⌝ }
+fn passed(before: Total, upto: Total, other: Total) -> Total
+    ensures { λ r. ⌜ r .0 ≡ cond (leb (upto .0) (other .0)) (upto .0) (before .0) ⌝ }
 {
-    if upto <= other { upto } else { before }
+    if upto.0 <= other.0 { upto } else { before }
 }
 
 // How far the two lines meet.
@@ -66,15 +66,15 @@ pub(crate) fn meet(bids: &[u64], asks: &[u64]) -> Met
     requires { ⌜ (length (now bids) ≤ 120) × (length (now asks) ≤ 120) ⌝ }
     ensures { λ r. ⌜ ((h : heading.Heading) (os : List standing.Standing) → LineOf Buy os (now (bids .entry)) → LineOf Sell os (now (asks .entry)) → MetAs h os (now (bids .entry)) (now (asks .entry)) r) ⌝ }
 {
-    let mut volume: u64 = 0;
+    let mut volume = Total(0);
     let mut buys: usize = 0;
-    let mut bought: u64 = 0;
+    let mut bought = Total(0);
     let mut sells: usize = 0;
-    let mut sold: u64 = 0;
+    let mut sold = Total(0);
     while meets(bids, buys, asks, sells) {
-        let demand = bought + amount_in(bids[buys]);
-        let supply = sold + amount_in(asks[sells]);
-        volume = smaller(Total(demand), Total(supply)).0;
+        let demand = Total(bought.0 + amount_in(bids[buys]));
+        let supply = Total(sold.0 + amount_in(asks[sells]));
+        volume = smaller(demand, supply);
         buys += at_most(demand, supply);
         sells += at_most(supply, demand);
         bought = passed(bought, demand, supply);
@@ -91,10 +91,10 @@ pub(crate) fn meet(bids: &[u64], asks: &[u64]) -> Met
 
 // The order that holds the last piece of a volume above 0, where order i holds the next one and `before`
 // pieces stand before it.
-pub(crate) fn last_holder(before: u64, i: usize, volume: u64) -> usize
-    ensures { λ r. ⌜ r ≡ cond (ltb before volume) i (i - 1) ⌝ }
+pub(crate) fn last_holder(before: Total, i: usize, volume: Total) -> usize
+    ensures { λ r. ⌜ r ≡ cond (ltb (before .0) (volume .0)) i (i - 1) ⌝ }
 {
-    if before < volume {
+    if before.0 < volume.0 {
         return i;
     }
     if i == 0 { 0 } else { i - 1 }

@@ -1,7 +1,7 @@
 -- What is known of every accepted sheet: its prices are on the grid, its quantities from 1 to 1,000,000, its length fits.
 -- In an accepted sheet no row of the table arises; each row that does not arise is one of the facts below. Of a call on it only the
 -- call's own rows are left; a refused sheet refuses every call.
-use mathlib.Core.Bool.{Bool, true, false, not, _&&_, _||_}
+use mathlib.Core.Bool.{Bool, true, false, _&&_, _||_}
 use mathlib.Core.List.{List, [], _∷_, _++_}
 use mathlib.Core.Path.{_≡_, _∙_}
 use Prim.Native.Nat.{ℕ, zero, suc, _+_, _≤_, _<_}
@@ -89,15 +89,12 @@ unfolding termsAllowed ignoredAllowed termsOf
 sound-terms disposition limit ignored allowed few =
     let told = both {a = leb disposition 2} allowed .1 in
     let most = leb-true _ _ (both {a = leb ignored 1000000} few .0) in
-    by-test SoundTerms (eqb disposition 2) (λ e. (on-grid limit (barred e told), most))
+    by-test SoundTerms (eqb disposition 2) (λ e. (on-grid limit (barred (eqb limit 0) (rw e at told)), most))
     (λ e. by-test SoundTerms (eqb limit 0) (λ f. tt) (λ f. on-grid limit (rw f at told)))
   where
-    barred : eqb disposition 2 ≡ true → (eqb limit 0 && not (eqb disposition 2) || onGrid limit) ≡ true → onGrid limit ≡ true
-    barred e = rw e (go (eqb limit 0))
-      where
-        go : (none : Bool) → (none && false || onGrid limit) ≡ true → onGrid limit ≡ true
-        go true told = told
-        go false told = told
+    barred : (none : Bool) → (none && false || onGrid limit) ≡ true → onGrid limit ≡ true
+    barred true on = on
+    barred false on = on
 
 -- rows 6 to 8 of an order that passes
 sound-order : (k : ℕ) (a b c : Word) → Clear (orderChecks k a b c) → SoundOrder (orderFrom a b c)

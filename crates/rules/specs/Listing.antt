@@ -56,15 +56,15 @@ figuresIn (suc most) n = cond (ltb n 10) [] (figuresIn most (n / 10)) ++ (glyph 
 unfoldable pub figures : ℕ → List ℕ
 figures n = figuresIn (n + 1) n
 
--- or `refused`, number, order number, with single spaces.
+-- or `refused`, number, place, with single spaces.
 unfoldable pub refusalLine : ℕ → ℕ → List ℕ
-refusalLine number order =
-    ascii "refused " ++ figures number ++ ascii " " ++ figures order ++ ascii "\n"
+refusalLine number place =
+    ascii "refused " ++ figures number ++ ascii " " ++ figures place ++ ascii "\n"
 
 -- The text of an answer.
 unfoldable pub printedAnswer : Answer → List ℕ
 printedAnswer (gives words) = wordLines words
-printedAnswer (refuses number order) = refusalLine number order
+printedAnswer (refuses number place) = refusalLine number place
 
 -- What the program answers: the bytes are checked first, then the sheet; an accepted sheet gives the words of its opening.
 unfoldable pub programAnswer : List ℕ → Answer

@@ -10,7 +10,7 @@ use native.Mathlib.Numerals.{add-one}
 use native.Mathlib.Omega.{arith}
 use lib.ListN.{length, set, replicate, length-replicate}
 use Rattle.rules.specs.Answers.{gives, refuses, verdict, faultNumber, refusalNumber, refusalPlace}
-use Rattle.rules.specs.Sheet.{orderPlace, headingFrom, headingOf, orderFrom, orderAt, checksIn, ordersOf, headingChecks, ordersChecks, sheetChecks, checkSheet, mostOrders}
+use Rattle.rules.specs.Sheet.{orderPlace, headingFrom, headingOf, orderFrom, orderAt, checksIn, ordersOf, headingChecks, ordersChecks, sheetChecks, checkSheet, mostOrders, AcceptedSheet}
 use Rattle.rules.proofs.Accepted.{heading-passes}
 use Rattle.rules.proofs.Downwards.{Clear, Stops, given-clear, refused-stops, nothing-left, clear-append, stops-first, stops-after}
 use Rattle.rules.proofs.Painting.{Painted, painted-none, painted-more, painted-first}
@@ -146,5 +146,5 @@ module _ (ws : List ℕ) {count : ℕ} {orders : List Order} {cursor : Cursor} {
   unfolding checkSheet sheetChecks headingRead placesRead ordersOf
   accepted-reading reads done =
       let last : i ≡ headingOf ws .count = omega (arith, so-far .few, so-far .counted) in
-      let e : checkSheet ws ≡ gives [] = clear-append (given-clear (headingChecks ws) [] (reads .0)) (rw last at (so-far .clear)) .hands-on (gives []) in
+      let e : AcceptedSheet ws = clear-append (given-clear (headingChecks ws) [] (reads .0)) (rw last at (so-far .clear)) .hands-on (gives []) in
       record { checked = sym e; heading = rw e (reads .1); orders = rw e (rw last at (painted-first noOrder mostOrders (so-far .places))) }

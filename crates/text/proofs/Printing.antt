@@ -73,7 +73,7 @@ pub number-in-front : (end : ℕ) {number count : ℕ} {front before after : Lis
     → InFront (figures number ++ (end ∷ [])) before after r
 number-in-front end fewest e p = rw (e, decimal-figures fewest) at p
 
-pub refusal-line : (number order : ℕ)
-    → ((ascii "refused" ++ ascii " ") ++ (figures number ++ ascii " ")) ++ (figures order ++ ascii "\n") ≡ refusalLine number order
+pub refusal-line : (number place : ℕ)
+    → ((ascii "refused" ++ ascii " ") ++ (figures number ++ ascii " ")) ++ (figures place ++ ascii "\n") ≡ refusalLine number place
 unfolding refusalLine
-refusal-line number order = simp append-assoc
+refusal-line number place = simp append-assoc

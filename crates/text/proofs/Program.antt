@@ -18,7 +18,7 @@ use Rattle.rules.specs.Answers.{Answer, gives, refuses, Check, downwards, first
 use Rattle.rules.specs.Calls.{opening, answerBy, answer, wordsGiven}
 use Rattle.rules.specs.Listing.{inputFits, sheetIn, programAnswer}
 use Rattle.rules.specs.Opening.{openingWords, openingSpace}
-use Rattle.rules.specs.Sheet.{headingOf, sheetChecks, checkSheet}
+use Rattle.rules.specs.Sheet.{headingOf, sheetChecks, checkSheet, AcceptedSheet}
 use Rattle.rules.specs.declared.SpaceAnswer.{SpaceAnswer}
 use Rattle.rules.specs.declared.SpaceAnswer.the-variants.{Written, Refused}
 use Rattle.text.specs.Steps.{Within}
@@ -71,7 +71,7 @@ written-within ws space long (Written count) after kept answers =
     let given : gives (firstWords count after) ≡ downwards (sheetChecks ws) (gives (openingWords ws)) =
     rw (long, opening-answer ws) at answers in
     let clear : Clear (sheetChecks ws) = given-clear (sheetChecks ws) (openingWords ws) (sym given) in
-    let passes : checkSheet ws ≡ gives [] = clear .hands-on (gives []) in
+    let passes : AcceptedSheet ws = clear .hands-on (gives []) in
     let words : firstWords count after ≡ openingWords ws = ap wordsGiven (given ∙ clear .hands-on (gives (openingWords ws))) in
     let few : openingSpace (headingOf ws .count) ≤ 15005 = most-space (headingOf ws .count) (accepted-sound ws passes .heading .count) in
     omega (arith, length-listed (λ i. getD after i 0) count, ap length words, result-fits ws passes)

@@ -52,14 +52,14 @@ fn write_number(number: u64, end: u8, out: &mut [u8]) -> usize
     put(&digits[..count], end, out)
 }
 
-// `refused`, number and order number: at most 8 + 21 + 21 bytes.
-fn write_refused(number: u64, order: u64, out: &mut [u8]) -> usize
+// `refused`, number and place: at most 8 + 21 + 21 bytes.
+fn write_refused(number: u64, place: u64, out: &mut [u8]) -> usize
     requires { ⌜ 50 ≤ length (now out) ⌝ }
-    ensures { λ r. ⌜ InFront (refusalLine number order) (now (out .entry)) (now (out .exit)) r ⌝ }
+    ensures { λ r. ⌜ InFront (refusalLine number place) (now (out .entry)) (now (out .exit)) r ⌝ }
 {
     let mut at = put(b"refused", b' ', out);
     at += write_number(number, b' ', &mut out[at..]);
-    at += write_number(order, b'\n', &mut out[at..]);
+    at += write_number(place, b'\n', &mut out[at..]);
     at
 }
 

@@ -10,7 +10,7 @@ use Rattle.pricing.proofs.meet.meet.Statement.{statement}
 use Rattle.pricing.proofs.meet.meet.Tie as tie
 
 abbrev Inv-loop : tie.InvT-loop
-Inv-loop bids asks volume₀ buys₀ bought₀ sells₀ sold₀ volume buys bought sells sold = Walked bids buys bought asks sells sold volume
+Inv-loop bids asks volume₀ buys₀ bought₀ sells₀ sold₀ volume buys bought sells sold = Walked bids buys (bought .0) asks sells (sold .0) (volume .0)
 
 abbrev μ-loop : tie.MeasureT-loop
 μ-loop bids asks volume₀ buys₀ bought₀ sells₀ sold₀ volume buys bought sells sold =
@@ -38,26 +38,26 @@ shared-slice-read-amount-in c = search (tests, there (c .before) .buy)
 amount-in-requires : tie.Need-amount-in-requires Inv-loop μ-loop
 amount-in-requires c κs = search tests
 
-add-demand : tie.Need-add-demand Inv-loop μ-loop
-add-demand c =
-    let t = c .before .before in
+add-amount-in : tie.Need-add-amount-in Inv-loop μ-loop
+add-amount-in c =
+    let t = c .before .before .before in
     let walk = t .before .before in
-    omega (arith, walk .loop .inv .buy .most, there t .buy, walk .before .before .before .pre .0, c .amount-in .ensures .1)
+    omega (arith, walk .loop .inv .buy .most, there t .buy, walk .before .before .before .pre .0, c .before .amount-in .ensures .1)
 
 mul-amount-in-2 : tie.Need-mul-amount-in-2 Inv-loop μ-loop
 mul-amount-in-2 c = search tests
 
 shared-slice-read-amount-in-2 : tie.Need-shared-slice-read-amount-in-2 Inv-loop μ-loop
-shared-slice-read-amount-in-2 c = search (tests, there (c .before .before .before) .sell)
+shared-slice-read-amount-in-2 c = search (tests, there (c .before .before .before .before) .sell)
 
 amount-in-requires-2 : tie.Need-amount-in-requires-2 Inv-loop μ-loop
 amount-in-requires-2 c κs = search tests
 
-add-supply : tie.Need-add-supply Inv-loop μ-loop
-add-supply c =
-    let t = c .before .before .before .before in
+add-t14 : tie.Need-add-t14 Inv-loop μ-loop
+add-t14 c =
+    let t = c .before .before .before .before .before .before in
     let walk = t .before .before in
-    omega (arith, walk .loop .inv .sell .most, there t .sell, walk .before .before .before .pre .1, c .amount-in2 .ensures .1)
+    omega (arith, walk .loop .inv .sell .most, there t .sell, walk .before .before .before .pre .1, c .before .amount-in2 .ensures .1)
 
 smaller-requires : tie.Need-smaller-requires Inv-loop μ-loop
 smaller-requires c κs = search tests
@@ -84,8 +84,8 @@ loop-less : tie.Need-loop-less Inv-loop μ-loop
 loop-less c =
     let sells = c .before .before in
     let buys = sells .before in
-    let ask = buys .before .before in
-    let bid = ask .before .before in
+    let ask = buys .before .before .before in
+    let bid = ask .before .before .before in
     let t = bid .before .before in
     let l = t .before .before .loop in
     omega (
@@ -94,16 +94,16 @@ loop-less c =
       there t .sell,
       buys .at-most .ensures .1,
       sells .at-most2 .ensures .1,
-      one-passed (l .bought + bid .amount-in .result) (l .sold + ask .amount-in2 .result) (buys .at-most .ensures .0) (sells .at-most2 .ensures .0),
+      one-passed (l .bought .0 + bid .amount-in .result) (l .sold .0 + ask .amount-in2 .result) (buys .at-most .ensures .0) (sells .at-most2 .ensures .0),
     )
 
 loop-again : tie.Need-loop-again Inv-loop μ-loop
 loop-again c =
     let sells = c .before .before in
     let least = sells .before .before in
-    let bid = least .before .before .before in
+    let bid = least .before .before .before .before .before in
     let t = bid .before .before in
-    walked-more (t .before .before .loop .inv) (there t) (bid .amount-in .ensures .0) (least .before .amount-in2 .ensures .0) (least .smaller .ensures)
+    walked-more (t .before .before .loop .inv) (there t) (bid .amount-in .ensures .0) (least .before .before .amount-in2 .ensures .0) (least .smaller .ensures)
     (sells .before .at-most .ensures .0) (sells .at-most2 .ensures .0) (c .before .passed .ensures) (c .passed2 .ensures)
 
 returns : tie.Need-returns Inv-loop μ-loop
@@ -120,11 +120,11 @@ meet-spec =
     mul-amount-in
     shared-slice-read-amount-in
     amount-in-requires
-    add-demand
+    add-amount-in
     mul-amount-in-2
     shared-slice-read-amount-in-2
     amount-in-requires-2
-    add-supply
+    add-t14
     smaller-requires
     at-most-requires
     add-buys

@@ -23,8 +23,8 @@ returns : tie.Need-returns
 unfolding printedAnswer
 returns c =
     let wrote = c .before .before in
-    let order = wrote .before .before in
-    rw (← order .before .number .ensures, ← order .place .ensures) (wrote .write-refused .ensures)
+    let told = wrote .before .before in
+    rw (← told .before .number .ensures, ← told .place .ensures) (wrote .write-refused .ensures)
 
 pub write-refusal-spec : {M : Type 1} → statement M
 write-refusal-spec =

@@ -52,7 +52,7 @@ returns c =
     let first = second .before .before .before .before in
     let start = first .before .before .before .before in
     let two = in-front-then (first .put .ensures) (omega (arith, first .put .ensures .counted, start .pre)) (second .write-number .ensures .0) in
-    rw (← refusal-line (start .args .number) (start .args .order))
+    rw (← refusal-line (start .args .number) (start .args .place))
     (in-front-then two (omega (arith, first .put .ensures .counted, second .write-number .ensures .1, start .pre))
     (third .write-number2 .ensures .0))
 
