@@ -1,6 +1,6 @@
 -- The first round of a sheet. The places of an accepted sheet begin with its orders, so what the engine works out from heading and places
 -- is the rules' answer; a refused sheet stops every call with its own refusal.
-use mathlib.Core.Bool.{true, false, not, cond, false≢true}
+use mathlib.Core.Bool.{Bool, true, false, not, cond, false≢true}
 use mathlib.Core.List.{List, [], _∷_, map}
 use mathlib.Core.Option.{Option, none, some}
 use mathlib.Core.Path.{_≡_, sym, ap, _∙_}
@@ -8,7 +8,8 @@ use Prim.Native.Nat.{ℕ, _≤_, _<_, min}
 use native.Mathlib.Omega.{arith}
 use lib.ListN.{List·getD-map, getD, length}
 use lib.Seq.{getD-take}
-use borrow.Author.Tests.{le-ltb, lt-ltb}
+use lib.Dec.{ltb}
+use borrow.Author.Tests.{le-ltb, lt-ltb, ltb-true, ltb-false, not-true, not-false}
 use Rattle.book.specs.Book.{Ranged}
 use Rattle.book.specs.Filed.{filedIn, remainingIn}
 use Rattle.claims.proofs.Places.{price-placed, placed-on}
@@ -36,7 +37,7 @@ use Rattle.rules.specs.declared.Side.{Side}
 use Rattle.rules.specs.declared.Side.the-variants.{Buy, Sell}
 use Rattle.rules.specs.declared.Terms.{Terms}
 use Rattle.rules.specs.declared.Terms.the-variants.{WithoutLimit, Limited, Stepper}
-use Rattle.run.proofs.Accepted.{orders-are, count-is, sound}
+use Rattle.run.proofs.Accepted.{orders-are, count-is, sound, few-of-sheet}
 use Rattle.run.proofs.Places.{remaining-first}
 use Rattle.run.proofs.Running.{round-ranged, running-none}
 use Rattle.run.specs.Accepted.{AcceptedAs, OfSheet}
@@ -181,3 +182,16 @@ module _ (ws : List ℕ) {r : Reading} (reads : ReadsAs ws r) where
 -- a reading of an accepted sheet is one of its heading and orders
 pub of-sheet : {r : Reading} → OfWords r → r .checked ≡ Accepted → OfSheet (r .heading) (r .orders)
 of-sheet s e = record { words = s .words; accepted = accepted-as (s .words) (s .reads) e }
+
+-- ---- The number of an order, tested against their count
+
+pub has-no-order : {found : Bool} {k n : ℕ} → found ≡ ltb k n → not found ≡ true → n ≤ k
+has-no-order e past = ltb-false _ _ (sym e ∙ not-true _ past)
+
+pub has-its-order : {found : Bool} {k n : ℕ} → found ≡ ltb k n → not found ≡ false → k < n
+has-its-order e within = ltb-true _ _ (sym e ∙ not-false _ within)
+
+-- an order of the sheet has a place
+pub order-placed : {r : Reading} → OfWords r → r .checked ≡ Accepted → (k : ℕ) {found : Bool} → found ≡ ltb k (r .heading .count)
+    → not found ≡ false → k < 120
+order-placed s accepted k e within = let there : k < _ = has-its-order e within in omega (arith, there, few-of-sheet (of-sheet s accepted))

@@ -3,6 +3,7 @@
 ghost use mathlib.Core.List.{List};
 ghost use mathlib.Core.Path.{_≡_};
 ghost use Prim.Native.Nat.{ℕ, _≤_};
+ghost use lib.Dec.{ltb};
 ghost use lib.ListN.{length, take};
 ghost use Rattle.lines.specs.Lines.{LineOf};
 ghost use Rattle.rules.specs.Answers.{priceAnswer, curvesAnswer, spaceAnswer};
@@ -31,6 +32,13 @@ use rules::Terms;
 use rules::on_grid;
 use run::start::quantities;
 use sheet::Reading;
+
+// Whether an order has this number.
+fn has_order(heading: Heading, number: usize) -> bool
+    ensures { λ r. ⌜ r ≡ ltb number (heading .count) ⌝ }
+{
+    number < heading.count
+}
 
 // Whether an order is a Stepper.
 fn is_stepper(order: Order) -> bool
@@ -82,7 +90,7 @@ pub(crate) fn limit_in_first(reading: Reading, order: usize) -> PriceAnswer
     match checked {
         Checked::Refused(refusal) => PriceAnswer::Refused(refusal),
         Checked::Accepted => {
-            if heading.count <= order {
+            if !has_order(heading, order) {
                 return PriceAnswer::Refused(Refusal::Argument);
             }
             let found = orders[order];

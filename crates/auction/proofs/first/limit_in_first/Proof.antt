@@ -1,7 +1,6 @@
 -- `limit_in_first` meets its contract: a refused sheet refuses the call, so do a number that no order has and an order that is no Stepper, and a
 -- Stepper stands where its side's line says.
-use Rattle.auction.proofs.FirstRound.{no-such-order, no-stepper, stepper-stands, accepted-as, of-sheet, limit-refused}
-use Rattle.run.proofs.Accepted.{few-of-sheet}
+use Rattle.auction.proofs.FirstRound.{has-no-order, has-its-order, order-placed, no-such-order, no-stepper, stepper-stands, accepted-as, limit-refused}
 use borrow.Author.Tests.{not-true, not-false}
 use mathlib.Core.Path.{sym, _∙_}
 use lib.ListN.{length-take}
@@ -9,6 +8,7 @@ use native.Mathlib.Omega.{arith}
 use borrow.Author.Needs.{needs}
 use Rattle.auction.proofs.first.limit_in_first.Statement.{statement}
 use Rattle.auction.proofs.first.limit_in_first.Tie as tie
+use Rattle.auction.proofs.first.has_order.Reads as has-order-reads
 use Rattle.auction.proofs.first.first_line.Reads as first-line-reads
 use Rattle.auction.proofs.first.is_stepper.Reads as is-stepper-reads
 use Rattle.lines.proofs.keys.price_at.Reads as price-at-reads
@@ -20,14 +20,22 @@ enum-known-checked c = search needs
 enum-told : tie.Need-enum-told
 enum-told c = search needs
 
+has-order-requires : tie.Need-has-order-requires
+has-order-requires c κs = search needs
+
 returns : tie.Need-returns
-returns c = λ ws reads. no-such-order (accepted-as ws reads (c .before .before .enum-told .given .1)) _ (c .if1 .taken)
+returns c =
+    λ ws reads. no-such-order (accepted-as ws reads (c .before .before .enum-told .given .1)) _ (has-no-order (c .before .has-order .ensures) (c .if1 .taken))
 
 mul-found : tie.Need-mul-found
-mul-found c = omega (arith, c .if1 .left, few-of-sheet (of-sheet (c .before .before .before .before .before .before .pre) (c .before .before .enum-told .given .1)))
+mul-found c =
+    let start = c .before .before .before .before .before .before in
+    omega (arith, order-placed (start .pre) (c .before .before .enum-told .given .1) (start .args .order) (c .before .has-order .ensures) (c .if1 .left))
 
 array-copy-out-found : tie.Need-array-copy-out-found
-array-copy-out-found c = omega (arith, c .if1 .left, few-of-sheet (of-sheet (c .before .before .before .before .before .before .pre) (c .before .before .enum-told .given .1)))
+array-copy-out-found c =
+    let start = c .before .before .before .before .before .before in
+    omega (arith, order-placed (start .pre) (c .before .before .enum-told .given .1) (start .args .order) (c .before .has-order .ensures) (c .if1 .left))
 
 is-stepper-requires : tie.Need-is-stepper-requires
 is-stepper-requires c κs = search needs
@@ -35,7 +43,7 @@ is-stepper-requires c κs = search needs
 returns-2 : tie.Need-returns-2
 returns-2 c =
     λ ws reads.
-    no-stepper (accepted-as ws reads (c .before .before .before .before .before .enum-told .given .1)) _ (c .before .before .before .if1 .left)
+    no-stepper (accepted-as ws reads (c .before .before .before .before .before .enum-told .given .1)) _ (has-its-order (c .before .before .before .before .has-order .ensures) (c .before .before .before .if1 .left))
     (sym (c .before .is-stepper .ensures) ∙ not-true _ (c .if2 .taken))
 
 slice-aggregate-first-line : tie.Need-slice-aggregate-first-line
@@ -63,7 +71,7 @@ returns-4 : tie.Need-returns-4
 returns-4 c =
     λ ws reads.
     let a = accepted-as ws reads (c .before .before .before .before .before .before .before .before .before .before .before .enum-told .given .1) in
-    stepper-stands a _ (c .before .before .before .before .before .before .before .before .before .if1 .left) (sym (c .before .before .before .before .before .before .before .is-stepper .ensures) ∙ not-false _ (c .before .before .before .before .before .before .if2 .left))
+    stepper-stands a _ (has-its-order (c .before .before .before .before .before .before .before .before .before .before .has-order .ensures) (c .before .before .before .before .before .before .before .before .before .if1 .left)) (sym (c .before .before .before .before .before .before .before .is-stepper .ensures) ∙ not-false _ (c .before .before .before .before .before .before .if2 .left))
     (c .before .place-of-order .ensures _ _ (c .before .before .before .before .first-line .ensures .2 ws a)) (c .price-at .ensures)
 
 pub limit-in-first-spec : {M : Type 1} → statement M
@@ -72,6 +80,7 @@ limit-in-first-spec =
     (tie.spec
     enum-known-checked
     enum-told
+    has-order-requires
     returns
     mul-found
     array-copy-out-found

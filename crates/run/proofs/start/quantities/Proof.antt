@@ -2,6 +2,7 @@
 -- places left.
 use mathlib.Core.Path.{refl, _∙_}
 use Prim.Native.Nat.{_-_}
+use native.Mathlib.Omega.{arith}
 use Rattle.rules.specs.Limits.{filed}
 use Rattle.run.proofs.Places.{quantities-are}
 use Rattle.rules.proofs.Painting.{Painted, painted-none, painted-more, painted-all}
@@ -37,7 +38,7 @@ loop-less : tie.Need-loop-less Inv-loop μ-loop
 loop-less c = search tests
 
 loop-again : tie.Need-loop-again Inv-loop μ-loop
-loop-again c = painted-more (c .before .before .before .loop .inv) (record { 0 = 0 }) (c .before .before .loop-test .taken) refl
+loop-again c = painted-more (c .before .before .before .loop .inv) (record { 0 = 0 }) (omega (arith, c .before .before .loop-test .taken)) refl
 
 returns : tie.Need-returns Inv-loop μ-loop
 returns c = painted-all (c .before .loop .inv) refl (c .loop-test .left) ∙ quantities-are (c .before .before .args .t1) (search tests)
