@@ -2,7 +2,7 @@
 // refusal. All between reading and writing is `text::opening_text`.
 fn main() {
     // One byte more than a sheet may have, so that input that is too long shows.
-    let mut input = [0u8; 1461];
+    let mut input = [0u8; text::MOST_BYTES + 1];
     let read = io::read_full(0, &mut input);
     let mut out = [0u8; 135045];
     let count = text::opening_text(&input[..read], &mut out);

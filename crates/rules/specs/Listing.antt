@@ -15,9 +15,13 @@ use Rattle.rules.specs.Sheet.{sheetChecks}
 
 -- ---- The sheet
 
+-- The most bytes of a sheet that the program reads.
+abbrev pub mostBytes : ℕ
+mostBytes = 1460
+
 -- Program input, 12: bytes not a multiple of 4, or above 1,460.
 unfoldable pub inputFits : List ℕ → Bool
-inputFits bytes = eqb (length bytes % 4) 0 && leb (length bytes) 1460
+inputFits bytes = eqb (length bytes % 4) 0 && leb (length bytes) mostBytes
 
 -- Word i of the bytes, high byte first.
 unfoldable pub wordIn : List ℕ → ℕ → ℕ

@@ -16,7 +16,7 @@ use Rattle.rules.proofs.Grid.{both}
 use Rattle.rules.proofs.Lists.{length-listed}
 use Rattle.rules.specs.Answers.{Answer, gives, refuses, Check, downwards, firstWords, spaceAnswer}
 use Rattle.rules.specs.Calls.{opening, answerBy, answer, wordsGiven}
-use Rattle.rules.specs.Listing.{inputFits, sheetIn, programAnswer}
+use Rattle.rules.specs.Listing.{mostBytes, inputFits, sheetIn, programAnswer}
 use Rattle.rules.specs.Opening.{openingWords, openingSpace}
 use Rattle.rules.specs.Sheet.{headingOf, sheetChecks, checkSheet, AcceptedSheet}
 use Rattle.rules.specs.declared.SpaceAnswer.{SpaceAnswer}
@@ -39,9 +39,9 @@ module _ (bytes : List ℕ) where
     unfolding inputFits
     whole-words = omega (arith, eqb-true (length bytes % 4) 0 (both fits .0))
 
-    pub few-words : length bytes / 4 ≤ 365
+    pub few-words : length bytes / 4 ≤ mostBytes / 4
     unfolding inputFits
-    few-words = omega (arith, leb-true (length bytes) 1460 (both {a = eqb (length bytes % 4) 0} fits .1))
+    few-words = omega (arith, leb-true (length bytes) mostBytes (both {a = eqb (length bytes % 4) 0} fits .1))
 
 -- ---- The space
 

@@ -3,9 +3,7 @@ ghost use Prim.Native.Nat.{_+_, _*_, _≤_, _<_};
 ghost use mathlib.Core.Path.{_≡_};
 ghost use lib.ListN.{length};
 ghost use Rattle.rules.specs.Listing.{inputFits, wordIn, sheetIn};
-
-// The bytes of the longest sheet.
-const MOST_BYTES: usize = 1460;
+use crate::MOST_BYTES;
 
 // Refusal 12: bytes not a multiple of 4, or above 1,460.
 pub(crate) fn input_fits(bytes: &[u8]) -> bool

@@ -3,11 +3,11 @@
 mod input;
 mod lines;
 
-ghost use Prim.Native.Nat.{_≤_, _*_};
+ghost use Prim.Native.Nat.{_≤_, _*_, _/_};
 ghost use mathlib.Core.Path.{_≡_};
 ghost use lib.ListN.{length};
 ghost use Rattle.rules.specs.Answers.{gives, downwards, spaceAnswer};
-ghost use Rattle.rules.specs.Listing.{sheetIn, printedAnswer, InFront, Printed};
+ghost use Rattle.rules.specs.Listing.{mostBytes, sheetIn, printedAnswer, InFront, Printed};
 ghost use Rattle.rules.specs.Opening.{openingWords};
 ghost use Rattle.rules.specs.Sheet.{sheetChecks};
 ghost use Rattle.text.specs.Steps.{Within};
@@ -18,11 +18,14 @@ use lines::write_refusal;
 use rules::Refusal;
 use rules::SpaceAnswer;
 
-// Room for the words of the longest sheet, 5 + 3 × 120.
-fn sheet_space() -> [u32; 365]
-    ensures { λ r. ⌜ 365 ≡ length r ⌝ }
+// The bytes of the longest sheet.
+pub const MOST_BYTES: usize = 1460;
+
+// Room for the words of the longest sheet.
+fn sheet_space() -> [u32; MOST_BYTES / 4]
+    ensures { λ r. ⌜ mostBytes / 4 ≡ length r ⌝ }
 {
-    [0; 365]
+    [0; MOST_BYTES / 4]
 }
 
 // Room for the result of an opening of 120 orders, 121 × 124 + 1 words.
