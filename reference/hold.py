@@ -4,8 +4,8 @@
     reference/hold.py [COUNT] [SEED]
 
 Random calls are made and answered by the reference implementation: COUNT whole openings, and a third as many of each other
-call. A scratch crate outside the project then states, for each, that the rules answer the same, and the checker proves it. An
-answer that differs leaves the scratch crate unproved.
+call on a sheet and of the band's calls together. A scratch crate outside the project then states, for each, that the rules
+answer the same, and the checker proves it. An answer that differs leaves the scratch crate unproved.
 """
 import os
 import re
@@ -48,7 +48,7 @@ def numbers(texts):
     return "".join(f"{text} ∷ " for text in texts) + "[]"
 
 
-# Each call of the protocol, by the name it has in the rules. Of those on a sheet most take a number first, the rules last.
+# The calls that take a number and a sheet, by their names in the rules. The protocol puts the number first, the rules last.
 ON_A_SHEET = {"stepper": "stepperLimit", "curves": "curvesAt", "round": "firstRound", "opening": "opening"}
 ANSWERED_IN_WORDS = ("round", "opening")
 
@@ -157,7 +157,7 @@ def rounds_of(result):
 
 def random_lines(count, seed):
     """Whole openings of small sheets, a third as many first rounds of others, at times in a space one word short, and as many
-    of each other call."""
+    of each other call on a sheet and of the band's calls together."""
     some = max(int(count) // 3, 1)
     lines = reference("sheets", "small", count, seed)
     for number, line in enumerate(reference("sheets", "small", str(some), seed + "1")):

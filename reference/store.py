@@ -6,7 +6,7 @@ usage: store.py KIND SEED LINES ANSWERS     KIND as in `reference sheets KIND CO
 Of the random lines it takes the first 200 of small sheets (up to 30 orders), the first 40 of large ones (100 orders and more)
 and the first 8 of each refusal (up to 40 orders), and appends them to the file LINES and the reference implementation's answers
 to the file ANSWERS, each under a line that says where they are from. Of small first rounds it takes 400 of situation 0 and 160
-of each other, of small openings 120 of one round with each ending, 240 of two and 300 of three or more, of large ones 40 of up
+of each other, of small openings with each ending 120 of one round, 240 of two and 300 of three or more, of large ones 40 of up
 to 9 rounds, 3 of 10 and more and 3 of 60, and of both calls 40 for which the space is too small.
 """
 import collections

@@ -21,8 +21,8 @@ pub struct Opening {
 }
 
 impl Round {
-    /// "Per round the result has 4 + n words: kind 10 situation, 11 auction price,
-    /// 12 purchase price, 13 total, then n of kind 14, the fills by order number."
+    /// A word for each figure of the round, of kinds 10 to 13, and one of kind 14 for each
+    /// order's fill (01 'Opening').
     pub fn words(&self) -> Vec<u32> {
         let purchase = self.purchase_price.map_or(0, |price| price.0);
         let mut words = vec![
@@ -37,7 +37,7 @@ impl Round {
 }
 
 impl Opening {
-    /// "A last word, kind 15, is ending × 65,536 + rounds, the count of rounds run."
+    /// The rounds one after the other, then a word with the ending and how many they are.
     pub fn words(&self) -> Vec<u32> {
         let rounds = self.rounds.len() as u32;
         let mut words: Vec<u32> = self.rounds.iter().flat_map(Round::words).collect();
@@ -46,12 +46,12 @@ impl Opening {
     }
 }
 
-/// "One first round (space 4 + n)."
 pub fn space_of_round(orders: usize) -> u64 {
     4 + orders as u64
 }
 
-/// "The space needs (n + 1) × (n + 4) + 1 words, whichever number is used."
+/// Room for the most rounds that there can be, n + 1, and the last word; an opening of fewer
+/// rounds needs it too.
 pub fn space_of_opening(orders: usize) -> u64 {
     let n = orders as u64;
     (n + 1) * (n + 4) + 1

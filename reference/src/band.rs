@@ -16,10 +16,9 @@ fn band(grid: Grid, lower: u64, upper: u64) -> Result<(Price, Price), Refusal> {
     Ok((lower, upper))
 }
 
-/// "The indicative price is the closing purchase price if the count of pieces traded,
-/// any number that the caller gives, is above 0, otherwise the last auction price moved
-/// to the nearer bound when outside D..H. D, H and only the price that is used are
-/// checked."
+/// If pieces were traded, the closing purchase price as it is, else the last auction price
+/// moved into D..H. The one of the two that is not taken may be any number, like the count
+/// of pieces.
 pub fn indicative_price(
     (lower, upper): (u64, u64),
     traded: u64,
@@ -34,7 +33,7 @@ pub fn indicative_price(
     Ok(auction.clamp(lower, upper))
 }
 
-/// "Shares (code 0) have 20 percent and certificates (code 1) have 25."
+/// Code 0 is for shares, 1 for certificates.
 fn percent(code: u64) -> Result<u64, Refusal> {
     match code {
         0 => Ok(20),
@@ -43,9 +42,8 @@ fn percent(code: u64) -> Result<u64, Refusal> {
     }
 }
 
-/// "Next band for percent q: upper is I × (100 + q) / 100 rounded down, lower is
-/// I × (100 − q) / 100 rounded up; then an upper equal to I goes up 1, a lower equal to
-/// I down 1."
+/// The new bounds lie q percent off I, both rounded towards I; one that comes to lie on I is
+/// put one step off it. There is no next band for I = 1.
 pub fn next_band(code: u64, indicative: u64) -> Result<(Price, Price), Refusal> {
     let q = percent(code)?;
     let i = u64::from(argument(Grid::DOCUMENT, indicative)?.0);
@@ -62,8 +60,8 @@ pub fn next_band(code: u64, indicative: u64) -> Result<(Price, Price), Refusal> 
     Ok((new_bound(lower)?, new_bound(upper)?))
 }
 
-/// "Widening after waiting takes D, H and a side: side 0 makes the upper bound
-/// 11 × H / 10 rounded down, side 1 the lower 9 × D / 10 rounded up."
+/// After waiting one bound moves out by a tenth of itself, rounded towards where it was: H for
+/// side 0, D for side 1.
 pub fn widening(lower: u64, upper: u64, side: u64) -> Result<(Price, Price), Refusal> {
     let (lower, upper) = band(Grid::DOCUMENT, lower, upper)?;
     match side {
@@ -73,7 +71,7 @@ pub fn widening(lower: u64, upper: u64, side: u64) -> Result<(Price, Price), Ref
     }
 }
 
-/// A new bound off the grid is the band's refusal.
+/// A new bound off the grid, which only an upper one can be, is the band's refusal.
 fn new_bound(number: u64) -> Result<Price, Refusal> {
     Grid::DOCUMENT.price(number).ok_or(BAND)
 }

@@ -7,7 +7,7 @@ use crate::refusal::{Refusal, INPUT};
 use crate::sheet::{read, Grid, Price, HEADING_WORDS, MOST_ORDERS, ORDER_WORDS};
 use std::io::{BufRead, Write};
 
-/// "Bytes not a multiple of 4, or above 1,460" are refused.
+/// The bytes of a sheet with all 120 orders, 1,460.
 const MOST_BYTES: usize = 4 * (HEADING_WORDS + ORDER_WORDS * MOST_ORDERS);
 
 const GRID: Grid = Grid::DOCUMENT;
@@ -15,9 +15,8 @@ const GRID: Grid = Grid::DOCUMENT;
 /// An answer to a call, or its refusal.
 type Answer = Result<String, Refusal>;
 
-/// "The opening program reads a sheet from standard input, high byte first, and prints
-/// each result word as 8 lower-case hexadecimal digits a line, or `refused`, number,
-/// order number, with single spaces."
+/// What the opening program prints for its input (01 'Listing'): the result words, one a line,
+/// or the line of the refusal.
 pub fn opening_program(bytes: &[u8]) -> String {
     match opening_of_bytes(bytes) {
         Ok(words) => hexadecimal(&words, "\n") + "\n",

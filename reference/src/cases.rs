@@ -1,4 +1,5 @@
-//! The listing, the cases P1–P12, and the table of refusals, each in both ways.
+//! The listing, the cases P1–P12, and the table of refusals. The cases' openings and limits in
+//! force are worked out in both ways; bands and refusals have only one.
 
 use crate::answer::Opening;
 use crate::calls::{answer_line, opening_program};
@@ -38,7 +39,7 @@ fn stepper(side: Side, quantity: u64, limit: u32, ignored: u64) -> Order {
     }
 }
 
-/// D 90, H 110, last 100, I 100.
+/// The heading that all the cases share.
 fn sheet(orders: &[Order]) -> Sheet {
     Sheet {
         lower: Price(90),
@@ -191,7 +192,7 @@ fn p12_bands() {
 
 #[test]
 fn tempting_errors() {
-    // An all-or-none order that does not fit stops those below it.
+    // The all-or-none buy finds too few pieces, and the buy below it gets none either.
     let orders = [
         limited(Buy, 6, 105, true),
         basic(Buy, 5, 100),

@@ -82,7 +82,7 @@ fn merged(random: &mut Random, buys: Vec<Order>, sells: Vec<Order>) -> Vec<Order
     merged
 }
 
-/// A chain with one or two orders of another kind in it.
+/// A chain with random orders in one or two places.
 pub fn disturbed_chain(random: &mut Random, sizes: Sizes) -> Sheet {
     let mut sheet = chain_sheet(random, sizes);
     let mix = random_mix(random, sizes, &sheet);
@@ -108,7 +108,8 @@ pub fn climbed_sheet(random: &mut Random, sizes: Sizes) -> Sheet {
     sheet
 }
 
-/// Orders of every disposition on both sides, all within a few prices of the band.
+/// Orders of every disposition on both sides, all limits within a stretch of 15 prices or fewer
+/// of the band.
 fn close_mix(random: &mut Random, sizes: Sizes, sheet: &Sheet) -> Mix {
     let (lower, upper) = (u64::from(sheet.lower.0), u64::from(sheet.upper.0));
     let low = random.between(lower, upper);
@@ -126,7 +127,7 @@ fn close_mix(random: &mut Random, sizes: Sizes, sheet: &Sheet) -> Mix {
     }
 }
 
-/// Puts one or two orders of another kind in the place of a sheet's own.
+/// Puts random orders in the place of one or two of a sheet's own.
 fn disturb(random: &mut Random, mix: &Mix, sheet: &mut Sheet) {
     for _ in 0..random.between(1, 2) {
         if sheet.orders.is_empty() {

@@ -1,36 +1,37 @@
-//! Where a refusal arises: the numbers of the table.
+//! The refusals by number (01 'Where a refusal arises').
 
-/// "A refusal returns its number and, for 5–8, the order number, else 0."
+/// `order` is the faulty order's number in refusals 5–8 and 0 in all others.
 #[derive(Clone, Copy, Debug, PartialEq, Eq)]
 pub struct Refusal {
     pub number: u32,
     pub order: usize,
 }
 
-/// Fewer than 5 words.
+/// Too short for a heading.
 pub const TOO_SHORT: Refusal = Refusal::new(1);
-/// A wrong kind in words 0–4.
+/// A heading word of a wrong kind.
 pub const HEADING_KIND: Refusal = Refusal::new(2);
-/// A price off the grid, or not D < I < H.
+/// A heading price off the grid, or an I that is not strictly between D and H.
 pub const HEADING_PRICE: Refusal = Refusal::new(3);
-/// n above 120, or wrong length.
+/// More than 120 orders, or not as many words as the count of orders asks for.
 pub const LENGTH: Refusal = Refusal::new(4);
-/// No such order, not a Stepper, price off the grid, D not below H, unknown code or side.
+/// A number of no order or of one that is no Stepper, a price off the grid, a D at or above H,
+/// a code or side other than 0 and 1.
 pub const ARGUMENT: Refusal = Refusal::new(9);
-/// Too few words.
+/// The space lent is too small.
 pub const SPACE: Refusal = Refusal::new(10);
-/// Next band with I = 1, or a new upper bound above the grid.
+/// I = 1 for the next band, or an upper bound that would leave the grid.
 pub const BAND: Refusal = Refusal::new(11);
-/// Bytes not a multiple of 4, or above 1,460.
+/// Input that does not divide into words, or is longer than the longest sheet.
 pub const INPUT: Refusal = Refusal::new(12);
 
-/// A wrong kind in the order's three words.
+/// An order word of a wrong kind.
 pub const ORDER_KIND: u32 = 5;
-/// Disposition or limit not allowed.
+/// A disposition above 2, a limit off the grid, a Stepper without limit.
 pub const ORDER_LIMIT: u32 = 6;
-/// Quantity out of range.
+/// No pieces, or more than 1,000,000.
 pub const ORDER_QUANTITY: u32 = 7;
-/// Ignored quantity out of range, or above 0 on no Stepper.
+/// More than 1,000,000 pieces ignored, or any by an order that is no Stepper.
 pub const ORDER_IGNORED: u32 = 8;
 
 impl Refusal {
@@ -38,7 +39,7 @@ impl Refusal {
         Refusal { number, order: 0 }
     }
 
-    /// `refused`, number, order number, with single spaces.
+    /// The refusal as it is printed (01 'Listing').
     pub fn line(self) -> String {
         format!("refused {} {}", self.number, self.order)
     }

@@ -9,9 +9,9 @@ use crate::sheet::{Grid, Order, Pieces, Price, Sheet, Side, Terms, MOST_PIECES};
 #[derive(Clone, Copy)]
 pub struct Sizes {
     pub grid: Grid,
-    /// The most orders.
+    /// The most orders; a chain has its Stepper even if this is 0.
     pub orders: u64,
-    /// The most pieces of an order.
+    /// The most pieces of an order; a chain's pairs have 2 even if this is 1.
     pub pieces: u64,
 }
 
@@ -107,7 +107,7 @@ fn random_window(random: &mut Random, grid: Grid, sheet: &Sheet) -> Window {
     }
 }
 
-/// Buys and sells from one window, or from its halves: overlapping or apart.
+/// Buys and sells from one window, or from its halves, overlapping or apart, or from two windows.
 fn random_windows(random: &mut Random, grid: Grid, sheet: &Sheet) -> (Window, Window) {
     let (low, high) = random_window(random, grid, sheet);
     let middle = random.between(low, high);

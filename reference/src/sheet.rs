@@ -3,18 +3,18 @@
 use crate::refusal::*;
 use std::iter::Sum;
 
-/// "Prices run from 1 to 1,000,000, the grid."
+/// The grid's last price; its first is 1.
 pub const LAST_PRICE: u32 = 1_000_000;
 pub const MOST_ORDERS: usize = 120;
 pub const MOST_PIECES: u32 = 1_000_000;
 pub const HEADING_WORDS: usize = 5;
 pub const ORDER_WORDS: usize = 3;
 
-/// A price counts steps of ten hellers.
+/// A price, in steps of ten hellers.
 #[derive(Clone, Copy, Debug, PartialEq, Eq, PartialOrd, Ord)]
 pub struct Price(pub u32);
 
-/// A quantity counts pieces.
+/// A number of pieces.
 #[derive(Clone, Copy, Debug, PartialEq, Eq, PartialOrd, Ord)]
 pub struct Pieces(pub u64);
 
@@ -51,8 +51,8 @@ pub enum Side {
     Sell,
 }
 
-/// "An order is without limit, limited, or a Stepper that carries its ignored
-/// quantity; all-or-none belongs to the first two."
+/// Limit and disposition of an order, as one of three sorts: a Stepper always has a limit and
+/// is never all-or-none, and it alone ignores pieces.
 #[derive(Clone, Copy, Debug, PartialEq, Eq)]
 pub enum Terms {
     WithoutLimit { all_or_none: bool },
@@ -128,7 +128,7 @@ impl Sheet {
     }
 }
 
-/// "The top 4 bits of a word are its kind, the low 28 its value."
+/// A word has its kind in the top 4 bits and its value in the other 28.
 pub fn word(kind: u32, value: u32) -> u32 {
     assert!(kind < 16 && value < 1 << 28);
     kind << 28 | value
@@ -142,7 +142,7 @@ fn value(word: u32) -> u32 {
     word & 0x0fff_ffff
 }
 
-/// "Checks run downwards": the heading, then the orders, lowest number first.
+/// Checks the heading, then one order after the other; the first fault is the refusal.
 pub fn read(words: &[u32], grid: Grid) -> Result<Sheet, Refusal> {
     let mut sheet = read_heading(words, grid)?;
     for (number, three) in words[HEADING_WORDS..].chunks(ORDER_WORDS).enumerate() {
@@ -211,9 +211,8 @@ fn read_order(three: &[u32], grid: Grid) -> Result<Order, u32> {
     })
 }
 
-/// "Value bits 0–23 the limit, bits 24–27 the disposition: 0 basic, 1 all-or-none,
-/// 2 Stepper." "Limit 0 means no limit and is barred for a Stepper. Other limits are
-/// grid prices."
+/// The top 4 of the 28 bits are the disposition: 0 for basic, 1 for all-or-none, 2 for Stepper.
+/// The 24 below are the limit: a grid price, or 0 for none, which a Stepper may not have.
 fn read_terms(first: u32, ignored: u32, grid: Grid) -> Result<Terms, u32> {
     let (disposition, entered) = (first >> 24, first & 0x00ff_ffff);
     let limit = grid.price(entered.into());

@@ -1,4 +1,4 @@
-// Document 01, "Indicative price and band": the three calls about bands. Their arguments may be any
+// Clauses 9.1–9.8: the three calls about bands. Their arguments may be any
 // numbers: what is not allowed is refused.
 mod rule;
 

@@ -1,4 +1,4 @@
--- The orders of a round in their places, for the promises of the engine's rounds.
+-- The orders of a round in their places, for the promises of the engine's rounds. Serves [4.1].
 use mathlib.Core.List.{List, map}
 use Prim.Native.Nat.{ℕ}
 use lib.ListN.{take}

@@ -1,19 +1,8 @@
-// Answers the calls of document 01 from standard input, one a line, each with a line of its own:
-//
-//     check WORD ..                    the words of a sheet, in hexadecimal
-//     stepper ORDER WORD ..            the limit in force of the Stepper of this number
-//     curves PRICE WORD ..             demand, supply and volume at this price
-//     round SPACE WORD ..              the words of the first round, in a space of so many words
-//     opening SPACE WORD ..            the words of the opening, in such a space
-//     indicative D H COUNT CLOSING AUCTION
-//     next CODE I
-//     widen D H SIDE
-//
-// Fields stand after single spaces, decimal except for words. An answer is `accepted`, the numbers that
-// the call gives, or `refused`, number and order number. A line that starts with `#` is printed as it
-// stands, an empty line has no answer, and one that cannot be read is answered `unreadable`.
+// Answers calls from standard input, one a line, each with a line of its own; `help` says how the lines
+// read. Started with an argument it reads nothing and prints that help.
 mod answers;
 mod fields;
+mod help;
 mod space;
 
 use answers::answer;
@@ -96,10 +85,18 @@ fn read_all(text: &mut [u8]) -> Line {
     line
 }
 
-fn main() {
+fn answer_all() {
     let mut text = io::buffer();
     let line = read_all(&mut text);
     if 0 < line.len {
         take(line, b'\n', &mut text);
+    }
+}
+
+fn main() {
+    if 1 < os::arg_count() {
+        help::help();
+    } else {
+        answer_all();
     }
 }

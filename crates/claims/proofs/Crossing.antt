@@ -14,8 +14,8 @@ use borrow.Author.Tests.{leb-true, leb-false, le-leb, lt-leb, lt-ltb, le-ltb, eq
 use Rattle.rules.proofs.Grid.{OnGrid, both}
 use Rattle.rules.proofs.Scan.{greatest-ge, greatest-le}
 use Rattle.rules.proofs.Tests.{by-test}
-use Rattle.rules.specs.AuctionPrice.{curve, inBand, Level, level, volume, orElse, found, highest, maximiser, potential, crossed, uncrossed, auctionBy, auction}
-use Rattle.rules.specs.Grid.{lastPrice, nth, overGrid}
+use Rattle.rules.specs.AuctionPrice.{curve, inBand, Level, level, volume, highest, maximiser, potential, crossed, uncrossed, auctionBy, auction}
+use Rattle.rules.specs.Grid.{lastPrice, nth, overGrid, found, orElse}
 use Rattle.rules.specs.Limits.{allows}
 use Rattle.rules.specs.Sheet.{D, H}
 use Rattle.rules.specs.declared.Heading.{Heading}

@@ -1,4 +1,4 @@
--- The fills that the function `fillsOf` gives are those that the document means: they meet F1–F4, and every other list of fills
+-- The fills that the function `fillsOf` gives are those that are meant: they meet F1–F4, and every other list of fills
 -- that meets them has a smaller total. F1 and F2 leave a side one way to hand out its total, the one by priority; so a lawful
 -- list is known by its total, and each lawful total is one that both sides can piecePlace.
 use mathlib.Core.Bool.{Bool, true, false, not, _&&_, _||_, cond, false≢true}
@@ -232,7 +232,7 @@ module _ (h : Heading) (a : Auction) (os : List Standing) (band : D h ≤ H h) w
       (λ k l. let m : k < n = omega arith in
       fill-is-share others lawful k m ∙ ap (λ (x : ℕ). share h a os x k) (same (side os k)) ∙ sym (fill-at h a os k m))
 
-  -- the fills are those that the document means
+  -- the fills are those that are meant
   pub fills-largest : Largest h a os fills
   fills-largest = record { each = fills-length h a os; lawful = fills-lawful; largest = smaller }
     where

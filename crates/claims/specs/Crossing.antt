@@ -1,6 +1,7 @@
--- Words for the auction price by four limits, in which the laws and the engine's promises speak; no claim. The limit of a side's piece v
--- is the last price for the side at which at least v of its pieces stand. With V the greatest volume, the maximisers run from the sells'
--- limit of piece V to the buys', and demand exceeds supply there up to the buys' limit of piece V + 1, supply demand from the sells' on.
+-- Words for the auction price by four limits, in which the laws and the engine's promises speak; no claim. The limit of a side's piece v is
+-- the last price for the side at which at least v of its pieces stand. With V the greatest volume, the maximisers run from the sells' limit
+-- of piece V to the buys', and demand exceeds supply there up to the buys' limit of piece V + 1, supply demand from the sells' on. Serves
+-- [5.6], [5.8], [5.9] and [5.10].
 use mathlib.Core.Bool.{cond}
 use mathlib.Core.List.{List}
 use mathlib.Core.Option.{Option, none, some}

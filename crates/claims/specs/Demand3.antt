@@ -1,5 +1,5 @@
--- Demand 3: a single claim about a sheet ws and all the result words rs of its opening. Nothing else appears in it: what a round starts
--- from is worked out from the sheet and the words of the rounds before.
+-- Clause 13.8 of docs/RULES.md: demand 3, one claim about a sheet ws and all the words rs of its result. Nothing else
+-- appears in it: what a round starts from comes from these two lists (clause 8.3).
 use mathlib.Core.Bool.{Bool, true, false, not}
 use mathlib.Core.List.{List}
 use mathlib.Core.Path.{_≡_}
@@ -21,7 +21,7 @@ use Rattle.rules.specs.declared.Standing.{Standing}
 
 -- ---- The claims about one round
 
--- Kind 10 situation, 11 auction price, 12 purchase price, 13 total, then n of kind 14.
+-- [13.8] The kinds of the words of round r.
 pub record Kinds (ws rs : List ℕ) (r : ℕ) : Type 0 where
   pub situation : wordAt rs (wordPlace ws r 0) .kind ≡ 10
   pub price : wordAt rs (wordPlace ws r 1) .kind ≡ 11
@@ -29,11 +29,11 @@ pub record Kinds (ws rs : List ℕ) (r : ℕ) : Type 0 where
   pub total : wordAt rs (wordPlace ws r 3) .kind ≡ 13
   pub fills : (k : ℕ) → k < count ws → wordAt rs (wordPlace ws r (4 + k)) .kind ≡ 14
 
--- An order that gets pieces trades at the purchase price: past its limit, if that allows another price only.
+-- [13.8] Trading at the purchase price is past a limit that does not allow it.
 abbrev pub pastLimit : Side → ℕ → ℕ → Bool
 pastLimit s limit purchase = not (allows s limit purchase)
 
--- A round x with the orders os at their limits in force, after the last purchase price.
+-- [13.8] A round x with the orders os at their limits in force, after the last purchase price.
 pub record RoundHolds (ws : List ℕ) (last : ℕ) (os : List Standing) (x : Round) (a : Auction) : Type 0 where
   -- situation and auction price are those of the rules
   pub auctioned : auction (headingOf ws) last os ≡ a
@@ -55,14 +55,14 @@ pub record RoundHolds (ws : List ℕ) (last : ℕ) (os : List Standing) (x : Rou
       (x .purchase)
       ≡ false
 
--- Round r of the result, from what the sheet and the words before it leave.
+-- [13.8] Round r of the result, from what the sheet and the words before it leave.
 abbrev pub SaidHolds : List ℕ → List ℕ → ℕ → Type 0
 SaidHolds ws rs r =
     RoundHolds ws (startSaid ws rs r .last) (standingSaid ws rs r) (roundSaid ws rs r) (auctionIn (roundSaid ws rs r))
 
 -- ---- The claim
 
--- The claim of demand 3 for the sheet ws and all the result words rs of its opening.
+-- [13.8] The whole claim.
 pub record Demand3 (ws rs : List ℕ) : Type 0 where
   -- the result has 4 + n words for each round and a last word
   pub size : length rs ≡ roundsIn ws rs * (count ws + 4) + 1

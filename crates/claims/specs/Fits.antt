@@ -1,4 +1,4 @@
--- What a round must be to have room in its result words; no claim.
+-- What a round must be to have room in its result words; no claim. Serves [7.8].
 use Prim.Native.Nat.{ℕ, _<_}
 use lib.ListN.{length}
 use Rattle.rules.specs.Fills.{fillOf}

@@ -1,4 +1,4 @@
--- The orders of a round by number, in short: what remains of one, its side, whether it is eligible.
+-- The orders of a round by number, in short: what remains of one, its side, whether it is eligible. Serves [4.1] and [6.2].
 use mathlib.Core.Bool.{Bool}
 use mathlib.Core.List.{List}
 use Prim.Native.Nat.{ℕ}

@@ -1,6 +1,6 @@
--- Places. A limit's place is how many prices of the grid it allows, counted from the side's worst one on: higher is better for both
--- sides, and 0 is nowhere. Whether an order stands at a price is then one comparison, for a buy and a sell alike, and a limit off the
--- grid needs no case of its own.
+-- Places. A limit's place is how many prices of the grid it allows, counted from the side's worst one on: higher is better for both sides,
+-- and 0 is nowhere. Whether an order stands at a price is then one comparison, for a buy and a sell alike, and a limit off the grid needs
+-- no case of its own. Serves [1.4] and [4.2].
 use Prim.Native.Nat.{ℕ, _+_, _-_, max, min}
 use lib.Dec.{leb}
 use Rattle.rules.specs.Grid.{lastPrice}

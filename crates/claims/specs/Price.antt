@@ -1,5 +1,6 @@
--- The auction price against the other prices of a round: the potential prices run without gaps, where some price carries pieces no
--- price carries more than the auction price, and of the prices from l to r none is nearer the last purchase price.
+-- Clauses 13.3–13.5 of docs/RULES.md: the auction price against the other prices of a round. The potential prices run
+-- without gaps, where some price carries pieces no price carries more than the auction price, and of the prices from
+-- l to r none is nearer the last purchase price.
 use mathlib.Core.Bool.{true, false}
 use mathlib.Core.List.{List}
 use mathlib.Core.Logic.{_↔_}
@@ -11,11 +12,11 @@ use Rattle.rules.specs.Grid.{onGrid, Scan, overGrid}
 use Rattle.rules.specs.declared.Heading.{Heading}
 use Rattle.rules.specs.declared.Standing.{Standing}
 
--- The prices of a round: the whole grid, by level.
+-- [13.3] The prices of a round: the whole grid, by level.
 abbrev pub levels : Heading → List Standing → Scan Level
 levels h os = overGrid (level h os)
 
--- The potential prices run without gaps from a to b.
+-- [13.3] Every price from a to b is a potential price, and no other is.
 pub record NoGaps (h : Heading) (os : List Standing) : Type 0 where
   pub first : ℕ
   pub last : ℕ
@@ -25,7 +26,7 @@ pub record NoGaps (h : Heading) (os : List Standing) : Type 0 where
   pub between : (p : ℕ) → onGrid p ≡ true
       → ((potential (levels h os) (level h os p) ≡ true) ↔ ((first ≤ p) × (p ≤ last)))
 
--- The auction price against every price of the grid, in a round where some price carries pieces.
+-- [13.4] The auction price against every price of the grid, in a round where some price carries pieces.
 pub record BestPrice (h : Heading) (os : List Standing) (price : ℕ) : Type 0 where
   -- no price carries more than the auction price
   pub most : (p : ℕ) → onGrid p ≡ true → carries h os p ≤ carries h os price
@@ -33,11 +34,11 @@ pub record BestPrice (h : Heading) (os : List Standing) (price : ℕ) : Type 0 w
   pub outside : (inBand h price ≡ false)
       ↔ ((p : ℕ) → onGrid p ≡ true → inBand h p ≡ true → carries h os p < carries h os price)
 
--- How far two prices lie apart.
+-- [13.5] How far two prices lie apart.
 abbrev pub distance : ℕ → ℕ → ℕ
 distance p q = (p - q) + (q - p)
 
--- The auction price among the prices from l to r, in such a round, after a last purchase price.
+-- [13.5] The auction price among the prices from l to r, in such a round, after a last purchase price.
 pub record Nearest (h : Heading) (os : List Standing) (last price : ℕ) : Type 0 where
   pub first : ℕ
   pub final : ℕ

@@ -46,7 +46,7 @@ pub fn smaller(a: Total, b: Total) -> Total
     if a.0 < b.0 { a } else { b }
 }
 
-// A price moved to the nearer bound when outside the band.
+// A price moved into the band.
 pub fn moved_into(lower: Price, upper: Price, price: Price) -> Price
     ensures { λ r. ⌜ r .0 ≡ movedInto (lower .0) (upper .0) (price .0) ⌝ }
 {

@@ -1,4 +1,4 @@
--- The walk down to the largest total that both sides can lawfully reach. It stands at a lawful total of each side, and no common one lies
+-- The walk down to the largest total within lawful reach of both sides. It stands at a lawful total of each side, and no common one lies
 -- above either; so each side may step down to its largest lawful total at or below the other's.
 use mathlib.Core.Bool.{true, _&&_}
 use mathlib.Core.List.{List}

@@ -1,4 +1,4 @@
--- The fills of a round in their places, for the promise of this crate.
+-- The fills of a round in their places, for the promise of this crate. Serves [6.7].
 use mathlib.Core.List.{List, _++_, map}
 use Prim.Native.Nat.{ℕ, _-_}
 use lib.ListN.{length, replicate}

@@ -1,4 +1,4 @@
--- A total handed out along a side's queue.
+-- A total handed out along a side's queue. Serves [6.5].
 use mathlib.Core.Bool.{true}
 use mathlib.Core.List.{List}
 use mathlib.Core.Path.{_≡_}

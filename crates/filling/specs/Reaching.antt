@@ -1,4 +1,4 @@
--- The totals that a side can lawfully reach, by its queue.
+-- The totals that a side can lawfully reach, by its queue. Serves [6.6].
 use mathlib.Core.List.{List}
 use mathlib.Core.Path.{_≡_}
 use Prim.Native.Nat.{ℕ, _≤_}

@@ -1,4 +1,4 @@
-// Document 01, "Fills": the fills of a round in all 120 places, and their total. Each side of the round is a
+// Clauses 6.2–6.7: the fills of a round in all 120 places, and their total. Each side of the round is a
 // line, of which the eligible orders are put in the order of the queue.
 mod queue;
 mod totals;

@@ -73,7 +73,7 @@ fn reached_from(queue: &[u64], orders: usize, sum: Total, total: Total) -> Reach
     }
 }
 
-// The largest total that both sides can lawfully reach. The outer loop steps down the lawful buy totals, the
+// The largest total within lawful reach of both sides. The outer loop steps down the lawful buy totals, the
 // inner one the lawful sell totals.
 pub(crate) fn common_total(bids: &[u64], asks: &[u64]) -> Total
     requires { ⌜ (length (now bids) ≤ 120) × (length (now asks) ≤ 120) ⌝ }

@@ -1,4 +1,4 @@
--- Pieces: how many an order may have, and those of 120 places, one for each order.
+-- Pieces: how many an order may have, and those of 120 places, one for each order. Serves [4.1].
 use mathlib.Core.List.{List}
 use Prim.Native.Nat.{ℕ}
 use lib.ListN.{getD}

@@ -1,4 +1,4 @@
--- How far the lines of both sides meet, and the orders that hold the last piece that is carried and the next one.
+-- How far the lines of both sides meet, and the orders that hold the last piece that is carried and the next one. Serves [5.6].
 use mathlib.Core.Bool.{Bool, _&&_}
 use mathlib.Core.List.{List}
 use mathlib.Core.Path.{_≡_}

@@ -1,4 +1,4 @@
-// Document 01, "Auction price": the situation of a round and its auction price. The limit of a side's piece
+// Clauses 5.4–5.12: the situation of a round and its auction price. The limit of a side's piece
 // v is the last price for the side at which at least v of its pieces stand, or the one beyond its worst
 // price where they stand nowhere. Four such limits give the auction: with V the greatest volume, the
 // maximisers run from the sells' limit of piece V to the buys', and demand exceeds supply there up to the

@@ -1,4 +1,4 @@
--- A round as the engine hands it back, and the rules' round that it stands for.
+-- A round as the engine hands it back, and the rules' round that it stands for. Serves [7.2] and [7.3].
 use mathlib.Core.List.{map}
 use Prim.Native.Nat.{ℕ}
 use Rattle.lines.specs.Pieces.{piecesOf}

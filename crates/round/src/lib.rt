@@ -1,4 +1,4 @@
-// Document 01, "Opening": a round of a sheet, from what remains of its orders, and the words of its result.
+// Clauses 7.1–7.3 and 7.8: a round of a sheet, from what remains of its orders, and the words of its result.
 pub mod writing;
 
 ghost use mathlib.Core.List.{List};

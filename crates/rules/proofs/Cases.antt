@@ -55,14 +55,14 @@ same-answer (refuses n k) (refuses m l) e = let t = both {a = eqb n m} e in rw (
 -- the test over a whole table
 unfoldable pub allSame : List Case → Bool
 allSame [] = true
-allSame (c ∷ cs) = same (quickAnswer (c .call)) (c .document) && allSame cs
+allSame (c ∷ cs) = same (quickAnswer (c .call)) (c .expected) && allSame cs
 
 pub all-same : (cs : List Case) → allSame cs ≡ true → AllHold cs
 unfolding allSame
 all-same [] e = tt
 all-same (c ∷ cs) e =
-    let t = both {a = same (quickAnswer (c .call)) (c .document)} e in
-    (quick-answer (c .call) ∙ same-answer (quickAnswer (c .call)) (c .document) (t .0), all-same cs (t .1))
+    let t = both {a = same (quickAnswer (c .call)) (c .expected)} e in
+    (quick-answer (c .call) ∙ same-answer (quickAnswer (c .call)) (c .expected) (t .0), all-same cs (t .1))
 
 -- P1–P12 hold, and so do the further cases
 pub cases-hold : AllHold documentCases × AllHold furtherCases

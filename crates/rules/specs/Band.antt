@@ -1,4 +1,4 @@
--- Document 01, "Indicative price and band", and refusals 9 and 11 of its calls.
+-- Clauses 9.1–9.8 of docs/RULES.md: indicative price, next band and widening, with refusals 9 and 11 of their calls.
 use mathlib.Core.Bool.{Bool, not, _&&_, _||_, cond}
 use mathlib.Core.List.{[], _∷_}
 use Prim.Native.Nat.{ℕ, _+_, _-_, _*_, _/_}
@@ -6,23 +6,22 @@ use lib.Dec.{leb, ltb, eqb}
 use Rattle.rules.specs.Answers.{Answer, gives, row, downwards}
 use Rattle.rules.specs.Grid.{lastPrice, onGrid, movedInto}
 
--- n / d rounded up; n / d itself is rounded down
+-- [9.1] n / d rounded up; n / d itself is rounded down
 abbrev pub roundedUp : ℕ → ℕ → ℕ
 roundedUp n d = (n + (d - 1)) / d
 
--- 9: a price off the grid, D not below H.
+-- [9.2] Both bounds are on the grid, D below H.
 unfoldable pub bandStands : ℕ → ℕ → Bool
 bandStands D H = onGrid D && onGrid H && ltb D H
 
 -- ---- The indicative price
 
--- The price that is used: the closing purchase price if the count of pieces traded, any number that the caller gives,
--- is above 0, otherwise the last auction price.
+-- [9.3] The price that is used: the closing purchase price where pieces were traded, else the last auction price.
 abbrev pub usedPrice : ℕ → ℕ → ℕ → ℕ
 usedPrice traded closing auction = cond (ltb 0 traded) closing auction
 
--- The indicative price is the closing purchase price if the count of pieces traded is above 0, otherwise the last auction
--- price moved to the nearer bound when outside D..H. D, H and only the price that is used are checked.
+-- [9.3] The closing purchase price as it is, or the last auction price moved into the band. 9 judges the band and the
+-- price used.
 unfoldable pub indicativePrice : ℕ → ℕ → ℕ → ℕ → ℕ → Answer
 indicativePrice D H traded closing auction =
     downwards (row 9 (not (bandStands D H && onGrid (usedPrice traded closing auction))) ∷ [])
@@ -30,47 +29,48 @@ indicativePrice D H traded closing auction =
 
 -- ---- The next band
 
--- Upper is I × (100 + q) / 100 rounded down; then an upper equal to I goes up 1.
+-- [9.4] 100 + q hundredths of I, rounded down; 1 above I where that is I.
 abbrev pub upperRounded : ℕ → ℕ → ℕ
 upperRounded q I = I * (100 + q) / 100
 
 unfoldable pub nextUpper : ℕ → ℕ → ℕ
 nextUpper q I = cond (eqb (upperRounded q I) I) (I + 1) (upperRounded q I)
 
--- Lower is I × (100 − q) / 100 rounded up; then a lower equal to I goes down 1.
+-- [9.4] 100 − q hundredths of I, rounded up; 1 below I where that is I.
 abbrev pub lowerRounded : ℕ → ℕ → ℕ
 lowerRounded q I = roundedUp (I * (100 - q)) 100
 
 unfoldable pub nextLower : ℕ → ℕ → ℕ
 nextLower q I = cond (eqb (lowerRounded q I) I) (I - 1) (lowerRounded q I)
 
--- Next band for percent q. 11: next band with I = 1, or a new upper bound above 1,000,000.
+-- [9.5] 20 percent for shares, code 0; 25 for certificates.
+unfoldable pub percentOf : ℕ → ℕ
+percentOf code = cond (eqb code 0) 20 25
+
+-- [9.6] The next band for percent q. 11 where I is 1, or the upper bound would be off the grid.
 unfoldable pub nextBandFor : ℕ → ℕ → Answer
 nextBandFor q I =
     downwards (row 11 (eqb I 1 || ltb lastPrice (nextUpper q I)) ∷ []) (gives (nextLower q I ∷ nextUpper q I ∷ []))
 
--- Shares (code 0) have 20 percent and certificates (code 1) have 25.
-unfoldable pub percentOf : ℕ → ℕ
-percentOf code = cond (eqb code 0) 20 25
-
--- 9: a price off the grid, unknown code.
+-- [9.6] 9 where I is off the grid or the code is unknown.
 unfoldable pub nextBand : ℕ → ℕ → Answer
 nextBand code I = downwards (row 9 (not (onGrid I && leb code 1)) ∷ []) (nextBandFor (percentOf code) I)
 
 -- ---- Widening after waiting
 
--- Side 0 makes the upper bound 11 × H / 10 rounded down, side 1 the lower 9 × D / 10 rounded up.
+-- [9.7] Side 0: 11 tenths of the upper bound, rounded down.
 unfoldable pub widenedUpper : ℕ → ℕ → ℕ
 widenedUpper side H = cond (eqb side 0) (11 * H / 10) H
 
+-- [9.7] Side 1: 9 tenths of the lower bound, rounded up.
 unfoldable pub widenedLower : ℕ → ℕ → ℕ
 widenedLower side D = cond (eqb side 0) D (roundedUp (9 * D) 10)
 
--- 11: a new upper bound above 1,000,000.
+-- [9.8] 11 where the upper bound would be off the grid.
 unfoldable pub widenedFor : ℕ → ℕ → ℕ → Answer
 widenedFor D H side =
     downwards (row 11 (ltb lastPrice (widenedUpper side H)) ∷ []) (gives (widenedLower side D ∷ widenedUpper side H ∷ []))
 
--- 9: a price off the grid, D not below H, unknown side.
+-- [9.8] 9 where the band does not stand or the side is unknown.
 unfoldable pub widenedBand : ℕ → ℕ → ℕ → Answer
 widenedBand D H side = downwards (row 9 (not (bandStands D H && leb side 1)) ∷ []) (widenedFor D H side)

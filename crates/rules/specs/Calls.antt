@@ -1,5 +1,4 @@
--- Document 01, "Opening": the calls on a sheet, "Indicative price and band": the other calls, and what each answers, with
--- refusals 9 and 10.
+-- Clauses 10.1–10.6 of docs/RULES.md: the calls and what each answers, with refusals 9 and 10 of those on a sheet.
 use mathlib.Core.Bool.{Bool, true, false, not, _&&_}
 use mathlib.Core.List.{List, [], _∷_, _++_}
 use mathlib.Core.Path.{_≡_}
@@ -17,8 +16,9 @@ use Rattle.rules.specs.declared.Standing.{Standing}
 use Rattle.rules.specs.declared.Terms.{Terms}
 use Rattle.rules.specs.declared.Terms.the-variants.{WithoutLimit, Limited, Stepper}
 
--- Calls on a sheet: check it; limit in force of Stepper k; demand, supply and volume at p (both of these in the first round); one
--- first round; the opening. The last two are given the number of words of the space. Then the three band calls.
+-- [10.1] The five calls on a sheet, given as its words: check; limit in force of a Stepper, by its number; curves, at
+-- a price; first round and opening, with the number of words of the space. Then indicative price, next band and
+-- widening.
 pub data Call : Type 0 where
   check : List ℕ → Call
   stepperLimit : List ℕ → ℕ → Call
@@ -29,29 +29,29 @@ pub data Call : Type 0 where
   next : ℕ → ℕ → Call
   widen : ℕ → ℕ → ℕ → Call
 
--- What a call on a sheet answers: the sheet's faults first, then the rows of its own.
+-- [10.2] What a call on a sheet answers: the sheet's faults first, then the rows of its own.
 abbrev pub onSheet : List ℕ → List Check → List ℕ → Answer
 onSheet ws own vs = downwards (sheetChecks ws ++ own) (gives vs)
 
+-- [10.3] Order k is on the sheet, and it is a Stepper.
 abbrev pub stepper : Terms → Bool
 stepper (WithoutLimit a) = false
 stepper (Limited l a) = false
 stepper (Stepper l q) = true
 
--- 9: no such order, not a Stepper.
 abbrev pub isStepper : List ℕ → ℕ → Bool
 isStepper ws k = ltb k (headingOf ws .count) && stepper (filed (ordersOf ws) k .terms)
 
--- Demand, supply and volume.
+-- [10.4] Demand, supply and volume.
 abbrev pub curvesOf : Level → List ℕ
 curvesOf v = v .demand ∷ v .supply ∷ volume v ∷ []
 
--- The orders of a sheet in its first round, at their limits in force.
+-- [10.4] The orders of a sheet in its first round, at their limits in force.
 unfoldable pub firstStanding : List ℕ → List Standing
 firstStanding ws = standing (headingOf ws) (ordersOf ws) (firstStart ws .remaining)
 
--- What a call answers, where first gives the orders of a sheet as they stand in its first round, and round the round of a sheet
--- from a start.
+-- [10.5] What a call answers, where first gives the orders of a sheet as they stand in its first round, and round the
+-- round of a sheet from a start.
 unfoldable pub answerBy : (List ℕ → List Standing) → (List ℕ → Start → Round) → Call → Answer
 answerBy first round (check ws) = checkSheet ws
 answerBy first round (stepperLimit ws k) = onSheet ws (row 9 (not (isStepper ws k)) ∷ []) (numbered (first ws) k .limit .0 ∷ [])
@@ -65,24 +65,24 @@ answerBy first round (indicative D H traded closing auction) = indicativePrice D
 answerBy first round (next code I) = nextBand code I
 answerBy first round (widen D H side) = widenedBand D H side
 
--- What the rules answer to a call.
+-- [10.5] What the rules answer to a call.
 unfoldable pub answer : Call → Answer
 answer = answerBy firstStanding roundFrom
 
--- What the lent space holds afterwards, where a call gives words: words beyond them keep their content. A refusal writes no
--- word.
+-- [10.6] What the lent space holds afterwards: the words given and, behind them, what it held; after a refusal just
+-- what it held.
 abbrev pub spaceAfter : Answer → List ℕ → List ℕ
 spaceAfter (gives words) space = words ++ drop (length words) space
 spaceAfter (refuses n k) space = space
 
--- A call that is lent a space: what it answered, with what the space held before and holds after.
+-- [10.6] A call that is lent a space: what it answered, with what the space held before and holds after.
 pub record Writes (call : Call) (before after : List ℕ) (answered : Answer) : Type 0 where
   -- the answer is that of the rules
   pub answers : answered ≡ answer call
   -- and so is all that the space holds: the words written, and beyond them what it held; a refusal writes no word
   pub holds : after ≡ spaceAfter (answer call) before
 
--- The words that an answer gives; a refusal gives none.
+-- [10.6] The words that an answer gives; a refusal gives none.
 abbrev pub wordsGiven : Answer → List ℕ
 wordsGiven (gives words) = words
 wordsGiven (refuses n k) = []

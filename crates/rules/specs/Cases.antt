@@ -1,5 +1,6 @@
--- Document 01, "Cases P1–P12", and further cases, as one table with a common statement: the rules answer what the document
--- says. D 90, H 110, last 100, I 100, where a sheet says nothing else. Then "Listing", from bytes to text.
+-- Clauses 12.1–12.6 of docs/RULES.md: P1–P12 and further cases, as one table with a common statement, that the rules
+-- give the answer of the case; then the listing, from bytes to text. D is 90, H 110, the last purchase price 100 and
+-- I 100, where a sheet says nothing else.
 use mathlib.Core.List.{List, [], _∷_, _++_, map}
 use mathlib.Core.Path.{_≡_}
 use Prim.Native.Nat.{ℕ, _+_, _*_}
@@ -14,17 +15,17 @@ use Rattle.rules.specs.Words.{word}
 
 -- ---- The table's statement
 
--- A call, and what the document says of it.
+-- [12.1] A call, and the answer that it has to get.
 pub record Case : Type 0 where
   pub call : Call
-  pub document : Answer
+  pub expected : Answer
 
 abbrev pub case : Call → Answer → Case
-case c d = record { call = c; document = d }
+case c d = record { call = c; expected = d }
 
--- The common statement of every case.
+-- [12.1] The common statement of every case.
 abbrev pub Holds : Case → Type 0
-Holds c = answer (c .call) ≡ c .document
+Holds c = answer (c .call) ≡ c .expected
 
 abbrev pub AllHold : List Case → Type 0
 AllHold [] = Unit {0}
@@ -32,12 +33,12 @@ AllHold (c ∷ cs) = Holds c × AllHold cs
 
 -- ---- Sheets and results in words
 
--- The three words of an order: kind 6 (buy) or 7 (sell) with disposition and limit, quantity, ignored quantity.
+-- [12.2] The three words of an order: kind 6 or 7 with disposition and limit, quantity, ignored quantity.
 abbrev pub order : ℕ → ℕ → ℕ → ℕ → ℕ → List ℕ
 order kind disposition quantity limit ignored =
     word kind (disposition * 0x100_0000 + limit) ∷ word 8 quantity ∷ word 9 ignored ∷ []
 
--- Pieces at a limit.
+-- [12.2] Pieces at a limit.
 abbrev pub buy : ℕ → ℕ → List ℕ
 buy quantity limit = order 6 0 quantity limit 0
 
@@ -50,14 +51,14 @@ allOrNoneBuy quantity limit = order 6 1 quantity limit 0
 abbrev pub allOrNoneSell : ℕ → ℕ → List ℕ
 allOrNoneSell quantity limit = order 7 1 quantity limit 0
 
--- Pieces of a Stepper to a limit, with its ignored quantity.
+-- [12.2] Pieces of a Stepper to a limit, with its ignored quantity.
 abbrev pub stepperBuy : ℕ → ℕ → ℕ → List ℕ
 stepperBuy quantity limit ignored = order 6 2 quantity limit ignored
 
 abbrev pub stepperSell : ℕ → ℕ → ℕ → List ℕ
 stepperSell quantity limit ignored = order 7 2 quantity limit ignored
 
--- One list after the other.
+-- [12.2] One list after the other.
 abbrev pub together : List (List ℕ) → List ℕ
 together [] = []
 together (l ∷ ls) = l ++ together ls
@@ -65,22 +66,22 @@ together (l ∷ ls) = l ++ together ls
 abbrev pub sheet : List (List ℕ) → List ℕ
 sheet orders = word 1 90 ∷ word 2 110 ∷ word 3 100 ∷ word 4 100 ∷ word 5 (length orders) ∷ together orders
 
--- The words of a round: situation, auction price, purchase price, total, fills.
+-- [12.2] The words of a round: situation, auction price, purchase price, total, fills.
 abbrev pub run : ℕ → ℕ → ℕ → ℕ → List ℕ → List ℕ
 run situation price purchase total fills =
     word 10 situation ∷ word 11 price ∷ word 12 purchase ∷ word 13 total ∷ map (word 14) fills
 
--- The opening of these orders has these rounds and this ending, in the space that it needs.
+-- [12.2] The opening of these orders has these rounds and this ending, in the space that it needs.
 abbrev pub opens : List (List ℕ) → List (List ℕ) → ℕ → Case
 opens orders rounds ending =
     case (opening (sheet orders) ((length orders + 1) * (length orders + 4) + 1))
     (gives (together rounds ++ (word 15 (ending * 65536 + length rounds) ∷ [])))
 
--- The Stepper of number k stands at this price.
+-- [12.2] The Stepper of number k stands at this price.
 abbrev pub standsIn : List (List ℕ) → ℕ → ℕ → Case
 standsIn orders k price = case (stepperLimit (sheet orders) k) (gives (price ∷ []))
 
--- The sheet of the listing, and the words of its result.
+-- [12.2] The sheet of the listing, and the words of its result.
 abbrev pub listing : List ℕ
 listing =
     0x1000005a
@@ -113,53 +114,55 @@ listingResult =
     ∷ 0xf0000002
     ∷ []
 
--- ---- P1–P12. Where the document leaves a quantity open it is 4, and a Stepper's is 7.
+-- ---- P1–P12. A quantity that does not matter is 4, and a Stepper's is 7.
 
+-- [12.3] P1–P12.
 unfoldable pub documentCases : List Case
 documentCases =
     -- P1: the listing
     case (opening listing 19) (gives listingResult)
-    -- P2: no orders: situation 4, price 100
+    -- P2: nobody
     ∷ opens [] (run 4 100 0 0 [] ∷ []) 0
-    -- P3: buys 5 at 95, 5 at 80, sell 10 at 70: auction 80, purchase 90, total 5, ending 2
+    -- P3: an auction price of 80, below the band; the 5 at 90 that trade are not its volume
     ∷ opens (buy 5 95 ∷ buy 5 80 ∷ sell 10 70 ∷ []) (run 0 80 90 5 (5 ∷ 0 ∷ 5 ∷ []) ∷ []) 2
-    -- P4: all-or-none buy 10 at 105, sell 4 at 95: price 105, total 0, ending 1
+    -- P4: an all-or-none order that does not fit blocks
     ∷ opens (allOrNoneBuy 10 105 ∷ sell 4 95 ∷ []) (run 0 105 0 0 (0 ∷ 0 ∷ []) ∷ []) 1
-    -- P5: only a sell at 104: price 100
+    -- P5: a sell above I
     ∷ opens (sell 4 104 ∷ []) (run 1 100 0 0 (0 ∷ []) ∷ []) 0
-    -- P6: only a sell at 97: 97
+    -- P6: a sell below I
     ∷ opens (sell 4 97 ∷ []) (run 1 97 0 0 (0 ∷ []) ∷ []) 0
-    -- P7: buy 95, sell 105: 100
+    -- P7: both sides, apart
     ∷ opens (buy 4 95 ∷ sell 4 105 ∷ []) (run 3 100 0 0 (0 ∷ 0 ∷ []) ∷ []) 0
-    -- P8: buy 4 at 105, sell 4 at 95: 100, total 4
+    -- P8: any price from 95 to 105 would do, the last purchase price is taken
     ∷ opens (buy 4 105 ∷ sell 4 95 ∷ []) (run 0 100 100 4 (4 ∷ 4 ∷ []) ∷ run 4 100 0 0 (0 ∷ 0 ∷ []) ∷ []) 0
-    -- P9: buys 5 at 104, 3 at 101 and a Stepper to 108: ignoring 5 it stands at 102, ignoring 4 at 105
+    -- P9: rivals of 5 and 3 pieces, of which the Stepper ignores 5, then 4
     ∷ standsIn (buy 5 104 ∷ buy 3 101 ∷ stepperBuy 7 108 5 ∷ []) 2 102
     ∷ standsIn (buy 5 104 ∷ buy 3 101 ∷ stepperBuy 7 108 4 ∷ []) 2 105
-    -- P10: a Stepper buy alone: 108 gives 90, 80 gives 80
+    -- P10: a Stepper without rivals
     ∷ standsIn (stepperBuy 7 108 0 ∷ []) 0 90
     ∷ standsIn (stepperBuy 7 80 0 ∷ []) 0 80
-    -- P11: buys 3 at 115, then 3 at 120, sell 3 at 95: price 110, the first is filled
+    -- P11: above the band limits are alike, and who filed first is filled
     ∷ opens (buy 3 115 ∷ buy 3 120 ∷ sell 3 95 ∷ [])
     (run 0 110 110 3 (3 ∷ 0 ∷ 3 ∷ []) ∷ run 2 110 0 0 (0 ∷ 0 ∷ 0 ∷ []) ∷ [])
     0
-    -- P12: share bands: I 2 gives 1..3; 833,334 gives 666,668..1,000,000; 833,335 is refused
+    -- P12: next bands of shares at both ends of the grid
     ∷ case (next 0 2) (gives (1 ∷ 3 ∷ []))
     ∷ case (next 0 833334) (gives (666668 ∷ 1000000 ∷ []))
     ∷ case (next 0 833335) (refuses 11 0)
-    -- P12: widening 110 gives 121, lower 95 gives 86; upper 909,091 gives 1,000,000, 909,092 is refused
+    -- P12: widening, up to the end of the grid
     ∷ case (widen 90 110 0) (gives (90 ∷ 121 ∷ []))
     ∷ case (widen 95 110 1) (gives (86 ∷ 110 ∷ []))
     ∷ case (widen 90 909091 0) (gives (90 ∷ 1000000 ∷ []))
     ∷ case (widen 90 909092 0) (refuses 11 0)
     ∷ []
 
--- ---- Further cases, worked out by hand from the document
+-- ---- Further cases, worked out by hand
 
+-- [12.4] Further cases.
 unfoldable pub furtherCases : List Case
 furtherCases =
-    -- An error that tempts: passing over an all-or-none order that does not fit and filling those below. Of the sells 4 are
-    -- basic and 8 all-or-none, so they can sell up to 4, or 12; the buys can buy 10 or 11. The buy of 1 is not filled alone.
+    -- An error that tempts: to skip an all-or-none order for which there are too few pieces, and to serve those after it. Of the
+    -- sells 4 are basic and 8 all-or-none, so they can sell up to 4, or 12; the buys can buy 10 or 11. The buy of 1 gets nothing.
     opens (allOrNoneBuy 10 105 ∷ buy 1 100 ∷ sell 4 95 ∷ allOrNoneSell 8 95 ∷ [])
     (run 0 95 0 0 (0 ∷ 0 ∷ 0 ∷ 0 ∷ []) ∷ [])
     1
@@ -230,7 +233,7 @@ furtherCases =
     ∷ case (check (sheet (stepperBuy 0 0 1000001 ∷ []))) (refuses 6 0)
     -- the next band of certificates
     ∷ case (next 1 100) (gives (75 ∷ 125 ∷ []))
-    -- the indicative price: the closing purchase price as it is; the last auction price moved to the nearer bound
+    -- the indicative price: the closing purchase price as it is; the last auction price moved into the band
     ∷ case (indicative 90 110 1 200 0) (gives (200 ∷ []))
     ∷ case (indicative 90 110 0 0 80) (gives (90 ∷ []))
     ∷ case (indicative 90 110 0 0 130) (gives (110 ∷ []))
@@ -239,6 +242,7 @@ furtherCases =
 
 -- ---- What the words of the listing's result say
 
+-- [12.5] The words of the listing's result, read.
 pub record ListingSaid : Type 0 where
   -- they are of two rounds; in the first both orders get 4 pieces at 105
   pub rounds : roundsIn listing listingResult ≡ 2
@@ -252,7 +256,7 @@ pub record ListingSaid : Type 0 where
 
 -- ---- The program's text
 
--- Bytes that the opening program reads, and the text that it prints.
+-- [12.6] Bytes that the opening program reads, and the text that it prints.
 pub record Printing : Type 0 where
   pub bytes : List ℕ
   pub text : String
@@ -264,7 +268,7 @@ abbrev pub AllPrint : List Printing → Type 0
 AllPrint [] = Unit {0}
 AllPrint (p ∷ ps) = (printed (p .bytes) ≡ ascii (p .text)) × AllPrint ps
 
--- The bytes of the listing's sheet.
+-- [12.6] The bytes of the listing's sheet.
 abbrev pub listingBytes : List ℕ
 listingBytes =
     0x10 ∷ 0x00 ∷ 0x00 ∷ 0x5a
@@ -280,6 +284,7 @@ listingBytes =
     ∷ 0x90 ∷ 0x00 ∷ 0x00 ∷ 0x00
     ∷ []
 
+-- [12.6] The listing, and refusals.
 unfoldable pub printings : List Printing
 printings =
     -- the listing

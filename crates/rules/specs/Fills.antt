@@ -1,5 +1,6 @@
--- Document 01, "Fills": who is eligible, the priority, and the fills. The orders os stand at their limits in force, and a is the
--- auction of the round. F1–F4, for any list of fills, are claimed of the fills: `claims` has them.
+-- Clauses 6.1–6.8 of docs/RULES.md: who is eligible, the priority, the fills and the purchase price. The orders os
+-- stand at their limits in force, and a is the auction of the round. F1–F4, for any list of fills, are claimed of the
+-- fills: `claims` has them.
 use mathlib.Core.Bool.{Bool, not, _&&_, _||_, Bool·beq, cond}
 use mathlib.Core.List.{List}
 use Prim.Native.Nat.{ℕ, _-_, max, min}
@@ -17,29 +18,29 @@ use Rattle.rules.specs.declared.Standing.{Standing}
 
 -- ---- Eligible orders and their priority
 
--- In situation 0 the potential purchase price is the auction price, or the nearer bound if that lies outside the band.
+-- [6.1] The auction price, moved into the band.
 abbrev pub potentialPurchase : Heading → Auction → ℕ
 potentialPurchase h a = movedInto (D h) (H h) (a .price)
 
--- Buys with limit in force at or above it, and sells at or below it, are eligible. In situations 1–4 no order is eligible.
+-- [6.2] In situation 0, an order whose limit in force allows that price.
 unfoldable pub eligible : Heading → Auction → Standing → Bool
 eligible h a o = eqb (a .situation) 0 && allows (o .side) (o .limit .0) (potentialPurchase h a)
 
--- Priority by limit in force: buys at or above H equal; sells at or below D equal.
+-- [6.3] For priority no buy's limit counts above H, and no sell's below D.
 abbrev pub priorityLimit : Heading → Side → ℕ → ℕ
 priorityLimit h Buy limit = min limit (H h)
 priorityLimit h Sell limit = max limit (D h)
 
--- Higher buy limit first, lower sell limit first.
+-- [6.3] The better limit goes first,
 abbrev pub firstBy : Side → ℕ → ℕ → Bool
 firstBy Buy l m = ltb m l
 firstBy Sell l m = ltb l m
 
--- Then basic and Stepper before all-or-none; then filing order.
+-- [6.3] then whoever is not all-or-none, then the lower number.
 abbrev pub filedFirst : Bool → Bool → ℕ → ℕ → Bool
 filedFirst a b i j = not a && b || Bool·beq a b && ltb i j
 
--- An order a of number i is ranked before an order b of number j on its side.
+-- [6.3] An order a of number i is ranked before an order b of number j on its side.
 unfoldable pub firstOf : Heading → Standing → Standing → ℕ → ℕ → Bool
 firstOf h a b i j =
     sameSide (a .side) (b .side)
@@ -52,11 +53,11 @@ rankedBefore h os i j = firstOf h (numbered os i) (numbered os j) i j
 
 -- ---- Lists of fills
 
--- A list of fills has for each order a whole number from 0, its pieces in the round.
+-- [6.4] What order k gets by a list of fills.
 abbrev pub fillOf : List ℕ → ℕ → ℕ
 fillOf fills k = getD fills k 0
 
--- A side's total is the sum over its orders; the list's total, which the result reports, is that of the buys.
+-- [6.4] What the orders of side s get together; of the buys it is the total that is reported.
 unfoldable pub total : Side → List Standing → List ℕ → ℕ
 total s os fills = sumTo (λ k. cond (sameSide s (numbered os k .side)) (fillOf fills k) 0) (length os)
 
@@ -65,35 +66,35 @@ total s os fills = sumTo (λ k. cond (sameSide s (numbered os k .side)) (fillOf 
 -- By F1 and F2 a side hands its total out by priority: there is one way to do it. What F3 leaves of its totals are those that
 -- it can lawfully reach.
 
--- The pieces of the eligible orders of side s.
+-- [6.5] The pieces of the eligible orders of side s.
 unfoldable pub offered : Heading → Auction → List Standing → Side → ℕ
 offered h a os s =
     sumTo (λ k. cond (sameSide s (numbered os k .side) && eligible h a (numbered os k)) (numbered os k .remaining .0) 0)
     (length os)
 
--- The pieces of the eligible orders ranked before order k on its side.
+-- [6.5] The pieces of the eligible orders ranked before order k on its side.
 unfoldable pub ahead : Heading → Auction → List Standing → ℕ → ℕ
 ahead h a os k =
     sumTo (λ j. cond (eligible h a (numbered os j) && rankedBefore h os j k) (numbered os j .remaining .0) 0) (length os)
 
--- What order k gets of its side's total: what is left after those ranked before it, at most its remainder.
+-- [6.5] What order k gets of its side's total: what is left after those ranked before it, at most what remains of it.
 unfoldable pub share : Heading → Auction → List Standing → ℕ → ℕ → ℕ
 share h a os sum k =
     cond (eligible h a (numbered os k)) (min (numbered os k .remaining .0) (sum - ahead h a os k)) 0
 
--- Of that total order k, if it is all-or-none, gets all its remainder or nothing.
+-- [6.6] Of that total order k, if it is all-or-none, gets all that remains of it or nothing.
 abbrev pub unsplit : Heading → Auction → List Standing → ℕ → ℕ → Bool
 unsplit h a os sum k =
     not (numbered os k .«all_or_none»)
     || (eqb (share h a os sum k) (numbered os k .remaining .0) || eqb (share h a os sum k) 0)
 
--- Side s can lawfully reach a total: it has the pieces, and no all-or-none order of it is split.
+-- [6.6] Side s can lawfully reach a total: it has the pieces, and no all-or-none order of it is split.
 unfoldable pub reaches : Heading → Auction → List Standing → Side → ℕ → Bool
 reaches h a os s sum =
     leb sum (offered h a os s)
     && everyTo (λ k. not (sameSide s (numbered os k .side)) || unsplit h a os sum k) (length os)
 
--- The largest total that both sides can lawfully reach.
+-- [6.7] The largest total within lawful reach of both sides, and each order's share of it.
 unfoldable pub largestTotal : Heading → Auction → List Standing → ℕ
 largestTotal h a os =
     largestTo (λ sum. reaches h a os Buy sum && reaches h a os Sell sum) (min (offered h a os Buy) (offered h a os Sell))
@@ -103,6 +104,6 @@ fillsOf h a os = listed (share h a os (largestTotal h a os)) (length os)
 
 -- ---- The purchase price
 
--- The purchase price is the potential one if the total is at least 1, else 0.
+-- [6.8] The potential purchase price where a piece trades, else 0.
 abbrev pub purchasePrice : Heading → Auction → ℕ → ℕ
 purchasePrice h a sum = cond (leb 1 sum) (potentialPurchase h a) 0

@@ -1,7 +1,8 @@
--- The rules of document 01, a file for each of its sections, in its order. All that a reader has to believe stands here.
-pub mod Lists
+-- The rules, a file for each part of docs/RULES.md and in its order; [n.m] above a definition is its clause there, which
+-- also holds for those below it until the next. All that a reader has to believe stands here.
 pub mod Grid
 pub mod Words
+pub mod Lists
 pub mod Answers
 pub mod Sheet
 pub mod Limits

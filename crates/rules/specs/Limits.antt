@@ -1,4 +1,4 @@
--- Document 01, "Limits in force": the orders as they stand in a round, and the limit of a Stepper.
+-- Clauses 4.1–4.7 of docs/RULES.md: the orders as they stand in a round, and the limit in force of a Stepper.
 use mathlib.Core.Bool.{Bool, true, false, not, _&&_, cond}
 use mathlib.Core.List.{List}
 use mathlib.Core.Option.{Option, none, some}
@@ -18,20 +18,21 @@ use Rattle.rules.specs.declared.Terms.the-variants.{WithoutLimit, Limite
 
 -- ---- The orders of a round
 
+-- [4.1] Whether two sides are the same.
 abbrev pub sameSide : Side → Side → Bool
 sameSide Buy Buy = true
 sameSide Buy Sell = false
 sameSide Sell Buy = false
 sameSide Sell Sell = true
 
--- All-or-none belongs to orders without limit and to limited ones.
+-- [4.1] An order without limit or a limited one may be all-or-none, a Stepper is not.
 abbrev pub allOrNone : Terms → Bool
 allOrNone (WithoutLimit a) = a
 allOrNone (Limited l a) = a
 allOrNone (Stepper l q) = false
 
--- Remaining is the quantity less earlier fills. An order as it stands in a round, at a limit and with what remains of it.
--- With nothing remaining it adds nothing to any sum, gets no fill and counts as filled completely: it counts nowhere.
+-- [4.1] An order as it stands in a round, at a limit and with what remains of it. With nothing remaining it adds to
+-- no sum, gets no fill and counts as filled completely: it counts nowhere.
 abbrev pub stands : Order → ℕ → ℕ → Standing
 stands o limit remaining = record {
   side = o .side;
@@ -40,34 +41,34 @@ stands o limit remaining = record {
   «all_or_none» = allOrNone (o .terms);
 }
 
--- What stands at a place that holds no order: an order of nothing.
+-- [4.1] What stands at a place that holds no order: an order of nothing.
 abbrev pub noOrder : Order
 noOrder = record { side = Buy; terms = WithoutLimit false; quantity = record { 0 = 0 } }
 
--- The order of number k.
+-- [4.1] The order of number k, as filed and as it stands.
 abbrev pub filed : List Order → ℕ → Order
 filed orders k = getD orders k noOrder
 
 abbrev pub numbered : List Standing → ℕ → Standing
 numbered os k = getD os k (stands noOrder 0 0)
 
--- A limit at or above the price for a buy, at or below it for a sell.
+-- [4.2] A buy's limit allows prices up to it, a sell's those from it on.
 abbrev pub allows : Side → ℕ → ℕ → Bool
 allows Buy limit p = leb p limit
 allows Sell limit p = leb limit p
 
--- The order is of side s and its limit allows p.
+-- [4.2] The order is of side s and its limit allows p.
 abbrev pub standsAt : Side → ℕ → Standing → Bool
 standsAt s p o = sameSide s (o .side) && allows s (o .limit .0) p
 
--- The remaining pieces at price p of those orders of side s whose number passes a test.
+-- [4.2] The remaining pieces at price p of those orders of side s whose number passes a test.
 unfoldable pub piecesAt : (ℕ → Bool) → Side → List Standing → ℕ → ℕ
 piecesAt counts s os p =
     sumTo (λ j. cond (counts j && standsAt s p (numbered os j)) (numbered os j .remaining .0) 0) (length os)
 
 -- ---- The entered limit
 
--- The entered limit of a buy without limit is H, of a sell D.
+-- [4.3] Without limit a buy is entered at H, a sell at D; else the limit on the sheet counts.
 abbrev pub withoutLimit : Heading → Side → ℕ
 withoutLimit h Buy = H h
 withoutLimit h Sell = D h
@@ -77,7 +78,7 @@ enteredLimit h s (WithoutLimit a) = withoutLimit h s
 enteredLimit h s (Limited l a) = l .0
 enteredLimit h s (Stepper l q) = l .0
 
--- The orders at their entered limits, with what remains of each.
+-- [4.3] The orders at their entered limits, with what remains of each.
 unfoldable pub entered : Heading → List Order → List ℕ → List Standing
 entered h orders remaining =
     listed
@@ -86,37 +87,34 @@ entered h orders remaining =
 
 -- ---- The limit in force
 
--- A Stepper's limit in force is worked out afresh in each round: from what remains then.
-
--- Order j is another than order k.
+-- [4.4] Order j is another than order k.
 abbrev pub others : ℕ → ℕ → Bool
 others k j = not (eqb j k)
 
--- The remaining pieces of the *other* buys than order k with entered limit at or above the price. Other Steppers enter by
--- entered limit. A sell mirrors this: sells at or below it.
+-- [4.4] The pieces at price p of the orders of order k's side but itself, all at their entered limits, Steppers too.
 abbrev pub rivalPieces : Heading → List Order → List ℕ → ℕ → ℕ → ℕ
 rivalPieces h orders remaining k p = piecesAt (others k) (filed orders k .side) (entered h orders remaining) p
 
--- For a buy, the best rival price is the highest price at which these pieces exceed the ignored quantity. A sell mirrors this:
--- lowest price.
+-- [4.5] The best price for the side at which the rivals' pieces are more than is ignored, or none.
 abbrev pub bestRival : Scan ℕ → Side → ℕ → Option ℕ
 bestRival rivals s ignored = rivals .best s (λ pieces. ltb ignored pieces)
 
--- Its limit in force is the smaller of the entered limit and max(D, best rival + 1). With no rival price it is the smaller of
--- entered limit and D. A sell mirrors this: max(entered limit, min(H, best rival − 1)), or max(entered limit, H).
+-- [4.6] A buy: 1 above the best rival and at least D, or D without a rival; at most its entered limit. A sell: 1
+-- below it and at most H, or H without a rival; at least its entered limit.
 unfoldable pub stepped : Heading → Side → ℕ → Option ℕ → ℕ
 stepped h Buy limit (some rival) = min limit (max (D h) (rival + 1))
 stepped h Buy limit none = min limit (D h)
 stepped h Sell limit (some rival) = max limit (min (H h) (rival - 1))
 stepped h Sell limit none = max limit (H h)
 
--- For all others the limit in force is the entered limit.
+-- [4.7] A Stepper steps, worked out anew from what remains in the round; all others keep their entered limit.
 unfoldable pub limitInForce : Heading → Side → Terms → Scan ℕ → ℕ
 limitInForce h s (WithoutLimit a) rivals = enteredLimit h s (WithoutLimit a)
 limitInForce h s (Limited l a) rivals = enteredLimit h s (Limited l a)
 limitInForce h s (Stepper l q) rivals = stepped h s (enteredLimit h s (Stepper l q)) (bestRival rivals s (q .0))
 
--- The orders at their limits in force, where rivals k has the prices of the grid by the pieces of order k's rivals.
+-- [4.7] The orders at their limits in force, where rivals k has the prices of the grid by the pieces of order k's
+-- rivals.
 unfoldable pub standingBy : (ℕ → Scan ℕ) → Heading → List Order → List ℕ → List Standing
 standingBy rivals h orders remaining =
     listed
@@ -124,6 +122,6 @@ standingBy rivals h orders remaining =
     stands (filed orders k) (limitInForce h (filed orders k .side) (filed orders k .terms) (rivals k)) (getD remaining k 0))
     (length orders)
 
--- The orders at their limits in force, over the whole grid.
+-- [4.7] The orders at their limits in force, over the whole grid.
 unfoldable pub standing : Heading → List Order → List ℕ → List Standing
 standing h orders remaining = standingBy (λ k. overGrid (rivalPieces h orders remaining k)) h orders remaining

@@ -1,5 +1,5 @@
--- Document 01, "Opening": what the words of a result say. A reader holds a sheet ws and the result words rs of its opening; what a
--- round starts from is worked out from the sheet and the words of the rounds before it.
+-- Clauses 8.1–8.4 of docs/RULES.md: what the words of a result say. A reader holds a sheet ws and the result words rs
+-- of its opening; what a round starts from is worked out from these two lists alone.
 use mathlib.Core.List.{List}
 use Prim.Native.Nat.{ℕ, zero, suc, _+_, _*_, _/_}
 use lib.ListN.{length}
@@ -15,19 +15,19 @@ use Rattle.rules.specs.declared.Standing.{Standing}
 
 -- ---- A round
 
--- The number of orders n.
+-- [8.1] The number of orders n.
 abbrev pub count : List ℕ → ℕ
 count ws = headingOf ws .count
 
--- Per round the result has 4 + n words, and then a last word.
+-- [8.1] The number of rounds: each has 4 + n words, and one word more ends the result.
 abbrev pub roundsIn : List ℕ → List ℕ → ℕ
 roundsIn ws rs = length rs / (count ws + 4)
 
--- The place of word j of round r.
+-- [8.1] The place of word j of round r.
 abbrev pub wordPlace : List ℕ → ℕ → ℕ → ℕ
 wordPlace ws r j = r * (count ws + 4) + j
 
--- Round r, as its words say it.
+-- [8.2] Round r, as its words say it.
 unfoldable pub roundSaid : List ℕ → List ℕ → ℕ → Round
 roundSaid ws rs r = record {
   situation = wordAt rs (wordPlace ws r 0) .value;
@@ -37,25 +37,25 @@ roundSaid ws rs r = record {
   fills = listed (λ k. wordAt rs (wordPlace ws r (4 + k)) .value) (count ws);
 }
 
--- The auction that a round reports.
+-- [8.2] The auction that a round reports.
 abbrev pub auctionIn : Round → Auction
 auctionIn x = record { situation = x .situation; price = x .price }
 
--- What round r starts from.
+-- [8.3] What round r starts from.
 unfoldable pub startSaid : List ℕ → List ℕ → ℕ → Start
 startSaid ws rs zero = firstStart ws
 startSaid ws rs (suc r) = after (startSaid ws rs r) (roundSaid ws rs r)
 
--- The orders of round r at their limits in force.
+-- [8.3] The orders of round r at their limits in force.
 unfoldable pub standingSaid : List ℕ → List ℕ → ℕ → List Standing
 standingSaid ws rs r = standing (headingOf ws) (ordersOf ws) (startSaid ws rs r .remaining)
 
 -- ---- The opening
 
--- The pieces that order k gets over the opening.
+-- [8.4] The pieces that order k gets over the opening.
 abbrev pub piecesOver : List ℕ → List ℕ → ℕ → ℕ
 piecesOver ws rs k = sumTo (λ r. fillOf (roundSaid ws rs r .fills) k) (roundsIn ws rs)
 
--- What a side trades over the opening: of the buys what is bought, of the sells what is sold.
+-- [8.4] What a side trades over the opening: of the buys what is bought, of the sells what is sold.
 abbrev pub tradedOver : Side → List ℕ → List ℕ → ℕ
 tradedOver s ws rs = sumTo (λ r. total s (standingSaid ws rs r) (roundSaid ws rs r .fills)) (roundsIn ws rs)

@@ -1,12 +1,12 @@
-// The types that the rules of document 01 and the engine share, and the refusals with their numbers.
+// The types that the rules and the engine share, and the refusals with their numbers.
 ghost use mathlib.Core.Path.{_≡_};
 ghost use Rattle.rules.specs.Grid.{onGrid};
 ghost use Rattle.rules.specs.Answers.{faultNumber, refusalNumber, refusalPlace};
 
-// A price counts steps of ten hellers.
+// Clause 1.1: a price, in steps of ten hellers.
 pub struct Price(pub u32);
 
-// A quantity counts pieces.
+// Clause 1.1: a number of pieces.
 pub struct Pieces(pub u32);
 
 // The pieces of several orders together. In 64 bits there is room for any 120 quantities.
@@ -22,7 +22,7 @@ pub fn on_grid(price: u32) -> bool
     (1 <= price) & (price <= LAST_PRICE)
 }
 
-// A word of a sheet or of a result: its kind is the top 4 bits, its value the low 28.
+// Clause 1.5: a word of a sheet or of a result.
 pub struct Word {
     pub kind: u32,
     pub value: u32,
@@ -33,8 +33,7 @@ pub enum Side {
     Sell,
 }
 
-// An order is without limit, limited, or a Stepper that carries its ignored quantity.
-// All-or-none belongs to the first two.
+// Clause 3.10: the terms of an order.
 pub enum Terms {
     WithoutLimit { all_or_none: bool },
     Limited { limit: Price, all_or_none: bool },
@@ -79,7 +78,7 @@ pub enum OrderFault {
     Terms,
     // Quantity out of range.
     Quantity,
-    // Ignored quantity out of range, or above 0 on no Stepper.
+    // Ignored quantity out of range, or on an order that is no Stepper.
     Ignored,
 }
 
@@ -89,7 +88,7 @@ pub enum Refusal {
     FewWords,
     // A wrong kind in words 0 to 4.
     HeadingKind,
-    // A price off the grid, or not D < I < H.
+    // A price off the grid, or I not between D and H.
     HeadingPrice,
     // More than 120 orders, or a wrong length.
     Length,
@@ -119,7 +118,7 @@ impl OrderFault {
 }
 
 impl Refusal {
-    // The number of document 01.
+    // Clause 2.3.
     pub fn number(self) -> u32
         ensures { λ r. ⌜ r ≡ refusalNumber self ⌝ }
     {
@@ -136,7 +135,7 @@ impl Refusal {
         }
     }
 
-    // The place of a refusal: the order number of refusals 5 to 8, else 0.
+    // Clause 2.4.
     pub fn place(self) -> usize
         ensures { λ r. ⌜ r ≡ refusalPlace self ⌝ }
     {

@@ -1,4 +1,4 @@
--- An accepted sheet as its heading and its orders in 120 places, for the promises of the engine's rounds.
+-- An accepted sheet as its heading and its orders in 120 places, for the promises of the engine's rounds. Serves [3.14].
 use mathlib.Core.List.{List}
 use mathlib.Core.Path.{_≡_}
 use Prim.Native.Nat.{ℕ}

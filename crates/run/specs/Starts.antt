@@ -1,4 +1,4 @@
--- What a round starts from, in the engine's 120 places, and what the run of an opening leaves in the lent space.
+-- What a round starts from, in the engine's 120 places, and what the run of an opening leaves in the lent space. Serves [7.4] and [7.10].
 use mathlib.Core.Bool.{cond}
 use mathlib.Core.List.{List, _++_, map}
 use mathlib.Core.Path.{_≡_}
@@ -15,15 +15,15 @@ use Rattle.rules.specs.declared.Order.{Order}
 use Rattle.rules.specs.declared.Pieces.{Pieces}
 use Rattle.run.specs.declared.start.Start.{Start}
 
--- The first round starts from the sheet's quantities and last purchase price.
+-- What the first round starts from.
 unfoldable pub startOf : Heading → List Order → Start
 startOf heading orders = record { last = heading .last; remaining = map (λ (o : Order). o .quantity) orders }
 
--- A round's fills come off the remainders, in all places.
+-- What remains after a round's fills, in all places.
 unfoldable pub lessFills : List Pieces → List Pieces → List Pieces
 lessFills remaining fills = listed (λ k. record { 0 = piecesOf remaining k - piecesOf fills k }) mostOrders
 
--- A purchase price above 0 becomes the last purchase price.
+-- What the next round starts from.
 unfoldable pub startAfter : Start → Round → Start
 startAfter s r = record {
   last = cond (ltb 0 (r .purchase .0)) (r .purchase) (s .last);

@@ -6,7 +6,7 @@ use compare::in_band;
 use round::Round;
 use rules::Heading;
 
-// The opening goes on only after situation 0, auction price in the band, total at least 1.
+// Clause 7.5: whether another round follows.
 pub(crate) fn goes_on(heading: Heading, round: Round) -> bool
     ensures { λ r. ⌜ r ≡ goesOn heading (handedBack round) ⌝ }
 {
@@ -14,8 +14,7 @@ pub(crate) fn goes_on(heading: Heading, round: Round) -> bool
     (round.situation == 0) & in_band(heading, price) & (1 <= round.total.0)
 }
 
-// The ending after a round: 0 after situations 1 to 4, 2 after an auction price outside the band in
-// situation 0, else 1.
+// Clause 7.6: the ending after a round that is the last.
 pub(crate) fn ending_after(heading: Heading, round: Round) -> u32
     ensures { λ r. ⌜ r ≡ endingAfter heading (handedBack round) ⌝ }
 {

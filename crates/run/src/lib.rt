@@ -1,4 +1,4 @@
-// Document 01, "Opening": the rounds of an opening, run one after the other into the lent space.
+// Clauses 7.4–7.10: the rounds of an opening, one after the other, into the lent space.
 mod ending;
 pub mod start;
 
@@ -19,7 +19,7 @@ use start::after;
 use start::first_start;
 use words::word;
 
-// Runs the rounds of an opening by the sheet's book, each written into its own stretch of the space, and writes
+// Runs the rounds of an opening by the sheet's book, each into its own stretch of the space, and writes
 // the last word behind them. Hands back how many words were written.
 pub fn run_rounds(heading: Heading, orders: [Order; 120], space: &mut [u32]) -> usize
     requires { ⌜ OfSheet heading orders × (openingSpace (heading .count) ≤ length (now space)) ⌝ }

@@ -1,4 +1,4 @@
--- What the reading of a sheet hands on to the calls that go on from it.
+-- What the reading of a sheet hands on to the calls that go on from it. Serves [3.14].
 use mathlib.Core.List.{List, _++_}
 use mathlib.Core.Path.{_≡_}
 use Prim.Native.Nat.{ℕ, _-_}

@@ -77,7 +77,7 @@ fn heading_from(five: HeadingWords) -> Heading
     }
 }
 
-// Refusal 3: a price off the grid, or not D < I < H.
+// Refusal 3, by clauses 3.3 and 3.4.
 fn wrong_prices(heading: Heading) -> bool
     ensures { λ r. ⌜ r ≡ wrongPrices heading ⌝ }
 {
@@ -88,7 +88,7 @@ fn wrong_prices(heading: Heading) -> bool
     !(grid & ((heading.lower.0 < heading.indicative.0) & (heading.indicative.0 < heading.upper.0)))
 }
 
-// Refusal 4: more than 120 orders, or a wrong length.
+// Refusal 4, by clause 3.5.
 fn wrong_length(heading: Heading, words: usize) -> bool
     ensures { λ r. ⌜ r ≡ wrongLength words heading ⌝ }
 {

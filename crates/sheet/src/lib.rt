@@ -1,4 +1,4 @@
-// Document 01, "Sheet": reading the words of a sheet, and its check.
+// Clauses 3.1–3.14: reading the words of a sheet, and its check.
 mod heading;
 mod orders;
 
@@ -14,7 +14,7 @@ use rules::Checked;
 use rules::Heading;
 use rules::Order;
 
-// The heading has 5 words, and each order has 3.
+// Clause 3.1: words of the heading, and of an order.
 pub(crate) const HEADING_WORDS: usize = 5;
 
 pub(crate) const ORDER_WORDS: usize = 3;

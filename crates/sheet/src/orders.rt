@@ -70,21 +70,21 @@ fn wrong_kinds(three: OrderWords) -> bool
         & (three.third.kind == 9))
 }
 
-// Refusal 6: disposition or limit not allowed.
+// Refusal 6, by clause 3.7.
 fn wrong_terms(disposition: u32, limit: u32) -> bool
     ensures { λ r. ⌜ r ≡ not (termsAllowed disposition limit) ⌝ }
 {
     !((disposition <= 2) & (((limit == 0) & !(disposition == 2)) | on_grid(limit)))
 }
 
-// Refusal 7: quantity out of range.
+// Refusal 7, by clause 3.8.
 fn wrong_quantity(quantity: u32) -> bool
     ensures { λ r. ⌜ r ≡ not (quantityAllowed quantity) ⌝ }
 {
     !((1 <= quantity) & (quantity <= 1000000))
 }
 
-// Refusal 8: ignored quantity out of range, or above 0 on no Stepper.
+// Refusal 8, by clause 3.9.
 fn wrong_ignored(disposition: u32, ignored: u32) -> bool
     ensures { λ r. ⌜ r ≡ not (ignoredAllowed disposition ignored) ⌝ }
 {

@@ -1,4 +1,4 @@
--- What the functions inside this crate ask of each other.
+-- What the functions inside this crate ask of each other. Serves [11.5].
 use Prim.Native.Nat.{ℕ, _≤_}
 use Rattle.rules.specs.declared.SpaceAnswer.{SpaceAnswer}
 use Rattle.rules.specs.declared.SpaceAnswer.the-variants.{Written, Refused}

@@ -5,7 +5,7 @@ ghost use lib.ListN.{length};
 ghost use Rattle.rules.specs.Listing.{inputFits, wordIn, sheetIn};
 use crate::MOST_BYTES;
 
-// Refusal 12: bytes not a multiple of 4, or above 1,460.
+// Refusal 12, by clause 11.1.
 pub(crate) fn input_fits(bytes: &[u8]) -> bool
     ensures { λ r. ⌜ r ≡ inputFits (now (bytes .entry)) ⌝ }
 {

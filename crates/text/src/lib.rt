@@ -1,4 +1,4 @@
-// Document 01, "Listing": the opening program but for its reading and writing, from the bytes that it
+// Clauses 11.1–11.5: the opening program but for its reading and writing, from the bytes that it
 // reads to the text that it prints.
 mod input;
 mod lines;

@@ -1,4 +1,4 @@
-// The reader of a list of words hands its place on from word to word.
+// A reader of words: each step gives a word and the cursor for the next.
 ghost use mathlib.Core.Path.{_≡_};
 ghost use Prim.Native.Nat.{_+_, _<_};
 ghost use lib.ListN.{length};

@@ -1,5 +1,5 @@
-// Words of 32 bits: their kind and value, and a reader that hands its place on from word to word. A call that reads a
-// list of words, of a sheet or of another kind, reads it by a cursor.
+// Clause 1.5: words of 32 bits, their kind and value, and a cursor over a list of them. A call that reads words, of a
+// sheet or of another kind, reads them by it.
 pub mod cursor;
 
 ghost use mathlib.Core.Path.{_≡_};
@@ -7,7 +7,7 @@ ghost use Prim.Native.Nat.{_<_};
 ghost use Rattle.rules.specs.Words as Words;
 use rules::Word;
 
-// The top 4 bits of a word are its kind, the low 28 its value.
+// What a kind of 1 adds to a word: the kind has the upper 4 bits.
 const KIND: u32 = 0x1000_0000;
 
 // The kind and the value of a word.

@@ -12,10 +12,9 @@ pub struct Queue {
 }
 
 impl Queue {
-    /// "Buys with limit in force at or above it, and sells at or below it, are eligible.
-    /// Priority by limit in force: higher buy limit first, those at or above H equal; lower
-    /// sell limit first, those at or below D equal; then basic and Stepper before
-    /// all-or-none; then filing order."
+    /// The orders that are eligible at the potential purchase price, by priority (01 'Fills'):
+    /// the keener limit in force first, those at the near bound or keener being level; on
+    /// level limits all-or-none orders last; then as they were filed.
     pub fn new(state: &State, side: Side, live: &[Live], potential: Price) -> Queue {
         let asked = Keenness::of(side, potential);
         let bound = near_bound(state.sheet, side);
@@ -58,8 +57,8 @@ impl Queue {
     }
 }
 
-/// "The largest total that both sides can lawfully reach." Each step goes down to the next total that the
-/// side in turn can reach, until neither goes further; 0 is lawful on both.
+/// The largest total that is lawful on both sides (01 'Fills'). Each step goes down to the next
+/// total that the side in turn can reach, until neither goes further; 0 is lawful on both.
 fn largest_common(buys: &Queue, sells: &Queue) -> u64 {
     let mut total = buys.whole().min(sells.whole());
     loop {

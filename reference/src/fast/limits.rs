@@ -27,10 +27,9 @@ fn entered(state: &State, side: Side) -> Vec<Live> {
     orders
 }
 
-/// "The best rival price is the highest price at which the remaining pieces of the
-/// *other* buys with entered limit at or above it exceed the ignored quantity." Walking
-/// from the keenest rival on, the best rival price is the limit of the one that
-/// takes the sum of pieces above the ignored quantity.
+/// Walking from the keenest rival on, by entered limits and without the Stepper itself, the
+/// best rival price is the limit of the one that takes the sum of pieces above the ignored
+/// quantity (01 'Limits in force').
 fn best_rival(entered: &[Live], stepper: usize, ignored: u64) -> Option<Keenness> {
     let mut pieces = 0;
     let mut rivals = entered.iter().filter(|order| order.number != stepper);
@@ -41,10 +40,8 @@ fn best_rival(entered: &[Live], stepper: usize, ignored: u64) -> Option<Keenness
     crossing.map(|rival| rival.limit)
 }
 
-/// "Its limit in force is the smaller of the entered limit and max(D, best rival + 1).
-/// With no rival price it is the smaller of entered limit and D. A sell mirrors this." In
-/// keenness: the entered limit, or one step keener than the best rival if that is less keen; never
-/// less keen than the far bound unless the entered limit is.
+/// A Stepper stands one step keener than its best rival, at the far bound if that is keener
+/// still or if it has no rival price, and in no case keener than its entered limit.
 fn stepped(entered: Keenness, far: Keenness, rival: Option<Keenness>) -> Keenness {
     let wanted = rival.map_or(far, |rival| rival.keener().max(far));
     wanted.min(entered)

@@ -29,9 +29,8 @@ pub fn curves(sheet: &Sheet, grid: Grid, p: u64) -> Result<[u64; 3], Refusal> {
     Ok([demand, supply, demand.min(supply)])
 }
 
-/// "In situation 0 the potential purchase price is the auction price, or the nearer bound
-/// if that lies outside the band." "In situations 1–4 no order is eligible and all fills
-/// are 0. The purchase price is the potential one if the total is at least 1, else 0."
+/// Only situation 0 can fill orders: at the auction price, or the bound nearest to it where it
+/// is outside the band. This is the purchase price if anything trades, else there is none.
 /// The state is left as the round found it.
 pub fn round(state: &State) -> Round {
     let sheet = state.sheet;
@@ -55,13 +54,12 @@ pub fn round(state: &State) -> Round {
     }
 }
 
-/// One first round.
 pub fn first_round(sheet: &Sheet, grid: Grid) -> Round {
     round(&State::first(sheet, grid))
 }
 
-/// "A round's fills come off the remainders; a purchase price above 0 becomes the last
-/// purchase price."
+/// Takes a round's fills off what remains; if it traded, its purchase price is the last one
+/// from now on.
 fn carry(state: &mut State, round: &Round) {
     for (remaining, fill) in state.remaining.iter_mut().zip(&round.fills) {
         *remaining -= fill.0;
@@ -69,9 +67,9 @@ fn carry(state: &mut State, round: &Round) {
     state.last_purchase = round.purchase_price.unwrap_or(state.last_purchase);
 }
 
-/// "The opening goes on only after situation 0, auction price in the band, total at
-/// least 1. Its ending is 0 after situations 1–4, 2 (waiting begins) after an auction
-/// price outside the band in situation 0, else 1 (blocked)." None if it goes on.
+/// The ending if the round is the last (01 'Opening'): 0 in situations 1–4; in situation 0, 2
+/// (waiting begins) with the auction price outside the band, 1 (blocked) with it inside and
+/// nothing traded. None if the opening goes on.
 fn ending(sheet: &Sheet, round: &Round) -> Option<u32> {
     match round.situation {
         0 if !sheet.in_band(round.auction_price) => Some(2),

@@ -26,8 +26,8 @@ impl Staircase {
         }
     }
 
-    /// "Demand at price p is the remaining pieces of buys with limit in force at or above
-    /// p; supply, of sells at or below p."
+    /// Demand for buys, supply for sells: the sum of the orders whose limit in force is at
+    /// least as keen as the price.
     pub fn at(&self, price: Price) -> u64 {
         let asked = Keenness::of(self.side, price);
         let counted = self.limits.partition_point(|limit| *limit >= asked);
@@ -80,10 +80,10 @@ fn candidates(state: &State, demand: &Staircase, supply: &Staircase) -> Vec<Cand
     prices.into_iter().map(with_pieces).collect()
 }
 
-/// "Potential prices are the maximisers in D..H, or all maximisers if D..H has none." "Let
-/// l be the highest potential price with demand above supply (a if none), r the lowest with
-/// supply above demand (b if none). The auction price is the price in l..r nearest the last
-/// purchase price."
+/// Situation 0. Of the maximisers given, those outside the band are dropped if any is inside; a
+/// is the lowest left and b the highest. Of these l is the last with more demand than supply,
+/// or else a, and r the first with more supply than demand, or else b. The last purchase price
+/// is moved into l..r (01 'Auction price').
 fn price_with_volume(state: &State, mut potential: Vec<Candidate>) -> Price {
     let inside = |at: &Candidate| state.sheet.in_band(at.price);
     if potential.iter().any(inside) {
@@ -97,8 +97,7 @@ fn price_with_volume(state: &State, mut potential: Vec<Candidate>) -> Price {
     state.last_purchase.clamp(l, r)
 }
 
-/// "Otherwise the potential prices are D..H": situations 1–4, told apart by whether D..H
-/// has demand and supply.
+/// No volume at any price: situations 1–4, told apart by whether D..H has demand and supply.
 fn price_without_volume(state: &State, demand: &Staircase, supply: &Staircase) -> (u32, Price) {
     let sheet = state.sheet;
     let highest = demand.keenest_in_band(sheet);

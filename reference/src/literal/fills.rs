@@ -5,7 +5,7 @@ use super::Book;
 use crate::answer::hexadecimal;
 use crate::sheet::{Pieces, Price, Side};
 
-/// A list of fills "has for each order a whole number from 0, its pieces in the round".
+/// The pieces that a round gives each order, by order number.
 type List = Vec<Pieces>;
 
 /// What the four rules ask of an order beyond the book: the potential purchase price,
@@ -15,8 +15,8 @@ pub struct Trial<'a> {
     pub potential: Option<Price>,
 }
 
-/// "In situation 0 the potential purchase price is the auction price, or the nearer
-/// bound if that lies outside the band."
+/// The auction price, or the bound nearest to it where it is outside the band; none in
+/// situations 1–4 (01 'Fills').
 pub fn potential_purchase_price(book: &Book, situation: u32, auction: Price) -> Option<Price> {
     if situation != 0 {
         return None;
@@ -39,9 +39,8 @@ impl Trial<'_> {
         0..self.book.sheet.orders.len()
     }
 
-    /// "Buys with limit in force at or above it, and sells at or below it, are
-    /// eligible." "In situations 1–4 no order is eligible." "An order with nothing
-    /// remaining counts nowhere."
+    /// Something remains of the order and its limit in force allows the potential purchase
+    /// price. Where there is no such price, nothing is eligible.
     fn eligible(&self, k: usize) -> bool {
         let Some(potential) = self.potential else {
             return false;
@@ -50,8 +49,8 @@ impl Trial<'_> {
         remains && counts_at(self.side(k), self.book.in_force[k], potential)
     }
 
-    /// "Higher buy limit first, those at or above H equal; lower sell limit first, those
-    /// at or below D equal."
+    /// Of two buys the higher limit in force is better, of two sells the lower one. Buys at
+    /// H or more are level with each other, and so are sells at D or less.
     fn better_limit(&self, first: usize, second: usize) -> bool {
         let (first_limit, second_limit) = (self.book.in_force[first], self.book.in_force[second]);
         let (lower, upper) = (self.book.sheet.lower, self.book.sheet.upper);
@@ -61,8 +60,8 @@ impl Trial<'_> {
         }
     }
 
-    /// "Priority by limit in force; then basic and Stepper before all-or-none; then
-    /// filing order."
+    /// The better limit in force ranks first. On level limits an all-or-none order ranks
+    /// behind the others; between two alike in that too, the lower number was filed first.
     fn ranked_before(&self, first: usize, second: usize) -> bool {
         if self.better_limit(first, second) {
             return true;
@@ -82,25 +81,23 @@ impl Trial<'_> {
         }
     }
 
-    /// "An order is filled completely if that is all its remainder."
     fn filled_completely(&self, list: &List, k: usize) -> bool {
         list[k] == self.book.remaining[k]
     }
 
-    /// "A side's total is the sum over its orders."
     fn total(&self, list: &List, side: Side) -> Pieces {
         let orders = self.numbers().filter(|k| self.side(*k) == side);
         orders.map(|k| list[k]).sum()
     }
 
-    /// "F1: only eligible orders are filled, none beyond its remainder."
+    /// F1: an order that gets pieces is eligible and gets no more than remains of it.
     fn f1(&self, list: &List) -> bool {
         self.numbers()
             .all(|k| list[k] == Pieces(0) || self.eligible(k) && list[k] <= self.book.remaining[k])
     }
 
-    /// "F2: an eligible order ranked on its side below one not filled completely gets
-    /// nothing."
+    /// F2: once an order of a side falls short of its remainder, the eligible ones ranked
+    /// after it get no pieces.
     fn f2(&self, list: &List) -> bool {
         let below_unfilled = |k: usize| {
             self.numbers().any(|above| {
@@ -113,21 +110,20 @@ impl Trial<'_> {
         eligible.all(|k| list[k] == Pieces(0) || !below_unfilled(k))
     }
 
-    /// "F3: an all-or-none order gets all its remainder or nothing."
+    /// F3: no all-or-none order is filled in part.
     fn f3(&self, list: &List) -> bool {
         let orders = &self.book.sheet.orders;
         let mut all_or_none = self.numbers().filter(|k| orders[*k].is_all_or_none());
         all_or_none.all(|k| list[k] == Pieces(0) || list[k] == self.book.remaining[k])
     }
 
-    /// "F4: both sides have equal totals."
+    /// F4: as many pieces are bought as sold.
     fn f4(&self, list: &List) -> bool {
         self.total(list, Side::Buy) == self.total(list, Side::Sell)
     }
 
-    /// "The fills meet F1–F4 with the largest total that both sides can lawfully reach."
-    /// "The list's total, which the result reports, is that of the buys." There must be
-    /// one such list and no second.
+    /// The list with the largest total among those that meet F1–F4, and this total, counted
+    /// on the buys. There must be one such list and no second.
     pub fn largest(&self) -> (Pieces, List) {
         let mut best: Vec<(Pieces, List)> = Vec::new();
         let mut list = vec![Pieces(0); self.book.remaining.len()];
@@ -147,8 +143,8 @@ impl Trial<'_> {
         best.remove(0)
     }
 
-    /// "It trades past its limit if that price is above the limit in force or the entered
-    /// limit of a buy, or below the limit in force or the entered limit of a sell."
+    /// Whether the price is worse than either of the order's limits, the entered one and the
+    /// one in force: above it for a buy, below it for a sell.
     pub fn trades_past_limit(&self, k: usize, price: Price) -> bool {
         let order = &self.book.sheet.orders[k];
         let (in_force, entered) = (self.book.in_force[k], entered_limit(self.book.sheet, order));

@@ -2,7 +2,7 @@
 
 use crate::sheet::{Grid, Order, Pieces, Price, Sheet, Side, Terms};
 
-/// "The entered limit of a buy without limit is H, of a sell D."
+/// An order without limit counts as entered at a bound, a buy at H and a sell at D.
 pub fn entered_limit(sheet: &Sheet, order: &Order) -> Price {
     match (order.terms, order.side) {
         (Terms::WithoutLimit { .. }, Side::Buy) => sheet.upper,
@@ -20,8 +20,8 @@ pub fn counts_at(side: Side, limit: Price, price: Price) -> bool {
     }
 }
 
-/// "The remaining pieces of the *other* buys with entered limit at or above it." "Other
-/// Steppers enter by entered limit." "A sell mirrors this: sells at or below it."
+/// What remains of the other orders on the Stepper's side that count at the price by their
+/// entered limits; other Steppers too count by these and not by where they stand.
 fn rival_pieces(sheet: &Sheet, remaining: &[Pieces], stepper: usize, price: Price) -> Pieces {
     let side = sheet.orders[stepper].side;
     let counts = |other: usize| {
@@ -33,9 +33,8 @@ fn rival_pieces(sheet: &Sheet, remaining: &[Pieces], stepper: usize, price: Pric
     others.map(|other| remaining[other]).sum()
 }
 
-/// "For a buy, the best rival price is the highest price at which the remaining pieces
-/// of the *other* buys with entered limit at or above it exceed the ignored quantity."
-/// "A sell mirrors this: lowest price."
+/// The best price, highest for a buy and lowest for a sell, at which the rivals have more
+/// pieces than the Stepper ignores; none if there is no such price.
 fn best_rival(
     sheet: &Sheet,
     grid: Grid,
@@ -52,10 +51,10 @@ fn best_rival(
     }
 }
 
-/// "Its limit in force is the smaller of the entered limit and max(D, best rival + 1).
-/// With no rival price it is the smaller of entered limit and D. A sell mirrors this:
-/// max(entered limit, min(H, best rival − 1)), or max(entered limit, H). For all others
-/// the limit in force is the entered limit."
+/// A Stepper buy stands one step above its best rival price, at D if that would be lower or
+/// if it has no rival price, and in no case above its entered limit. A Stepper sell does the
+/// same downwards, with H for D. Any other order stands at its entered limit
+/// (01 'Limits in force').
 pub fn limit_in_force(sheet: &Sheet, grid: Grid, remaining: &[Pieces], k: usize) -> Price {
     let order = &sheet.orders[k];
     let entered = entered_limit(sheet, order);

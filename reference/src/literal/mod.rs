@@ -35,7 +35,7 @@ impl<'a> Book<'a> {
         }
     }
 
-    /// "The first round starts from the sheet's quantities and last purchase price."
+    /// The book of the first round: nothing is filled yet.
     pub fn first(sheet: &'a Sheet, grid: Grid) -> Book<'a> {
         let quantities = sheet.orders.iter().map(|order| order.quantity).collect();
         Book::new(sheet, grid, quantities, sheet.last_purchase)

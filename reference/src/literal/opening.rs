@@ -1,4 +1,4 @@
-//! A round and the opening; what a round starts from is worked out afresh each time.
+//! A round and the opening; each round gets a new book, from the sheet and all rounds before it.
 
 use super::fills::{potential_purchase_price, Trial};
 use super::price::auction;
@@ -6,7 +6,8 @@ use super::Book;
 use crate::answer::{Opening, Round};
 use crate::sheet::{Grid, Pieces, Price, Sheet};
 
-/// "The purchase price is the potential one if the total is at least 1, else 0."
+/// What trades, trades at the potential purchase price, and no order may trade past its limit
+/// (01 'Fills').
 pub fn round(book: &Book) -> Round {
     let (situation, auction_price) = auction(book);
     let potential = potential_purchase_price(book, situation, auction_price);
@@ -26,27 +27,27 @@ pub fn round(book: &Book) -> Round {
     }
 }
 
-/// "*Remaining* is the quantity less earlier fills."
+/// What the rounds before have left of an order.
 fn remaining(sheet: &Sheet, before: &[Round], k: usize) -> Pieces {
     let filled: Pieces = before.iter().map(|round| round.fills[k]).sum();
     Pieces(sheet.orders[k].quantity.0 - filled.0)
 }
 
-/// "A purchase price above 0 becomes the last purchase price."
+/// The latest purchase price of the rounds before; the sheet's if none of them traded.
 fn last_purchase(sheet: &Sheet, before: &[Round]) -> Price {
     let mut latest_first = before.iter().rev();
     let latest = latest_first.find_map(|round| round.purchase_price);
     latest.unwrap_or(sheet.last_purchase)
 }
 
-/// "The opening goes on only after situation 0, auction price in the band, total at
-/// least 1."
+/// Whether another round follows: something traded, and the auction price is in the band
+/// (01 'Opening').
 fn goes_on(sheet: &Sheet, round: &Round) -> bool {
     round.situation == 0 && sheet.in_band(round.auction_price) && round.total >= Pieces(1)
 }
 
-/// "Its ending is 0 after situations 1–4, 2 (waiting begins) after an auction price
-/// outside the band in situation 0, else 1 (blocked)."
+/// 0: the last round had no volume at any price. 2: waiting begins, its auction price being
+/// outside the band. 1: blocked, its price was inside but nothing could be filled.
 fn ending(sheet: &Sheet, last: &Round) -> u32 {
     if last.situation >= 1 {
         return 0;
@@ -57,8 +58,7 @@ fn ending(sheet: &Sheet, last: &Round) -> u32 {
     1
 }
 
-/// "The first round starts from the sheet's quantities and last purchase price, each
-/// later one from what the rounds before it left."
+/// Rounds up to the first after which the opening does not go on.
 pub fn opening(sheet: &Sheet, grid: Grid) -> Opening {
     let mut rounds: Vec<Round> = Vec::new();
     loop {

@@ -13,8 +13,8 @@ pub struct Carried {
     pub volume: Pieces,
 }
 
-/// "Demand at price p is the remaining pieces of buys with limit in force at or above p;
-/// supply, of sells at or below p. All-or-none orders count in full."
+/// Demand for buys, supply for sells: what remains of the orders whose limit in force allows
+/// the price, be they all-or-none or not.
 fn pieces_at(book: &Book, side: Side, price: Price) -> Pieces {
     let orders = book.sheet.orders.iter().enumerate();
     orders
@@ -23,7 +23,6 @@ fn pieces_at(book: &Book, side: Side, price: Price) -> Pieces {
         .sum()
 }
 
-/// "Volume is the smaller of the two."
 pub fn carried_at(book: &Book, price: Price) -> Carried {
     let demand = pieces_at(book, Side::Buy, price);
     let supply = pieces_at(book, Side::Sell, price);
@@ -35,8 +34,8 @@ pub fn carried_at(book: &Book, price: Price) -> Carried {
     }
 }
 
-/// "A price of greatest volume over the grid is a maximiser. Potential prices are the
-/// maximisers in D..H, or all maximisers if D..H has none."
+/// The maximisers, that is the prices whose volume is the greatest of the whole grid: those
+/// in the band, or all of them if none is in the band.
 fn potential_prices(book: &Book, all: &[Carried], greatest: Pieces) -> Vec<Carried> {
     let maximisers = all.iter().filter(|at| at.volume == greatest).copied();
     let (inside, outside): (Vec<Carried>, Vec<Carried>) =
@@ -54,9 +53,9 @@ fn nearest(low: Price, high: Price, last_purchase: Price) -> Price {
     between.min_by_key(distance).expect("low is not above high")
 }
 
-/// "They run without gaps from a to b." "Let l be the highest potential price with
-/// demand above supply (a if none), r the lowest with supply above demand (b if none).
-/// The auction price is the price in l..r nearest the last purchase price."
+/// Situation 0. The potential prices are a..b, without a gap. Of them l is the highest with
+/// more demand than supply, or else a, and r the lowest with more supply than demand, or else
+/// b. From l to r the one nearest the last purchase price is taken.
 fn price_with_volume(book: &Book, potential: &[Carried]) -> Price {
     let prices = || potential.iter().map(|at| at.price);
     let (a, b) = (prices().min().unwrap(), prices().max().unwrap());
@@ -68,13 +67,13 @@ fn price_with_volume(book: &Book, potential: &[Carried]) -> Price {
     nearest(l, r, book.last_purchase)
 }
 
-/// "Otherwise the potential prices are D..H, and highest and lowest are taken within
-/// D..H:
-/// - 1, no demand there, some supply: min(lowest price with supply, I).
-/// - 2, no supply, some demand: max(highest price with demand, I).
-/// - 3, both: the price nearest the last purchase price from the highest with demand to
-///   the lowest with supply.
-/// - 4, neither: the last purchase price, even if outside the band."
+/// Situations 1–4, with no volume at any price (01 'Auction price'). Only the prices of the
+/// band are looked at, for the highest with demand and the lowest with supply.
+/// - 1, supply alone: the lowest, or I if that is lower.
+/// - 2, demand alone: the highest, or I if that is higher.
+/// - 3, demand and supply: of the prices between, ends included, the one nearest the last
+///   purchase price.
+/// - 4, none of either: the last purchase price, in the band or not.
 fn price_without_volume(book: &Book, all: &[Carried]) -> (u32, Price) {
     let band = || all.iter().filter(|at| book.sheet.in_band(at.price));
     let with_demand = band().filter(|at| at.demand > Pieces(0));

@@ -1,10 +1,10 @@
--- `main` is safe: no more bytes are written than the text has.
+-- `print_opening` is safe: no more bytes are written than the text has.
 use native.Mathlib.Omega.{arith}
 use lib.ListN.{length-take}
 use borrow.Author.Needs.{needs}
 use Rattle.text.proofs.Fronts.{in-front-few}
-use Rattle.opening.proofs.main.Statement.{statement}
-use Rattle.opening.proofs.main.Tie as tie
+use Rattle.opening.proofs.print_opening.Statement.{statement}
+use Rattle.opening.proofs.print_opening.Tie as tie
 
 slice-aggregate-read-full : tie.Need-slice-aggregate-read-full
 slice-aggregate-read-full c = search needs
@@ -42,8 +42,8 @@ returns c = search needs
 returns-2 : tie.Need-returns-2
 returns-2 c = search needs
 
-pub main-spec : {M : Type 1} → statement M
-main-spec =
+pub print-opening-spec : {M : Type 1} → statement M
+print-opening-spec =
     tie.close
     (tie.spec
     slice-aggregate-read-full

@@ -1,0 +1,37 @@
+// What the program says of itself.
+fn say(line: &[u8]) {
+    io::write_all(1, line);
+    io::write_all(1, b"\n");
+}
+
+pub(crate) fn help() {
+    say(b"calls < LINES");
+    say(b"");
+    say(b"Answers calls from standard input, a line for each:");
+    say(b"");
+    say(b"  check WORD ..                          whether this sheet is accepted");
+    say(
+        b"  stepper ORDER WORD ..                  limit in force of this Stepper in the first round",
+    );
+    say(b"  curves PRICE WORD ..                   demand, supply and volume in the first round");
+    say(
+        b"  round SPACE WORD ..                    the first round's words, in a space of SPACE words",
+    );
+    say(b"  opening SPACE WORD ..                  the opening's words, in such a space");
+    say(b"  indicative D H COUNT CLOSING AUCTION   the indicative price");
+    say(
+        b"  next CODE I                            the next band of shares (0) or certificates (1)",
+    );
+    say(
+        b"  widen D H SIDE                         the band with its upper (0) or lower (1) bound widened",
+    );
+    say(b"");
+    say(b"The words of a sheet are hexadecimal, other numbers decimal, with single spaces between");
+    say(
+        b"them. An answer is accepted, the numbers that the call gives, or refused with the number",
+    );
+    say(b"of the refusal and of the order at fault, or 0. A line that starts with # is printed as");
+    say(b"it stands, an empty line has no answer, and one that makes no sense is unreadable.");
+    say(b"");
+    say(b"docs/RULES.md has the rules and the refusals.");
+}
