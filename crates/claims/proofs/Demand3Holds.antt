@@ -121,7 +121,7 @@ module _ (ws : List ℕ) (sheet : SoundSheet ws) (k : ℕ) (last : OpeningEnds w
         goes = λ r l. rw (round-there r (omega arith)) (last .goes r (omega arith));
         ends = rw last-round-there (last .ends);
         last = rw (last-round-there, number) last-there;
-        some = omega arith;
+        least = omega arith;
         most = omega (arith, few-rounds ws (sound-band sheet) k (last .goes));
       }
 

@@ -69,7 +69,7 @@ module _ (ws : List ℕ) (sheet : SoundSheet ws) where
 
     last-round : OpeningEnds ws (roundsIn ws rs - 1)
     last-round =
-        let some : 1 ≤ roundsIn ws rs = claim .some in
+        let some : 1 ≤ roundsIn ws rs = claim .least in
         record {
           goes = λ r l. rw (rounds-are r (omega arith)) at (claim .goes r (omega arith));
           ends = rw (rounds-are (roundsIn ws rs - 1) (omega arith)) at (claim .ends);
@@ -84,7 +84,7 @@ module _ (ws : List ℕ) (sheet : SoundSheet ws) where
     same-number =
         let one = last-not-before (roundFrom ws) (headingOf ws) (firstStart ws) (roundsIn ws rs - 1) (rounds - 1) (last-round rs claim) (last-round qs claim′) in
         let other = last-not-before (roundFrom ws) (headingOf ws) (firstStart ws) (rounds - 1) (roundsIn ws rs - 1) (last-round qs claim′) (last-round rs claim) in
-        omega (arith, one, other, claim .some, claim′ .some)
+        omega (arith, one, other, claim .least, claim′ .least)
 
     same-round : (r : ℕ) → r < rounds → roundSaid ws rs r ≡ roundSaid ws qs r
     same-round r l = rounds-are rs claim r (omega (arith, same-number)) ∙ sym (rounds-are qs claim′ r l)
@@ -104,7 +104,7 @@ module _ (ws : List ℕ) (sheet : SoundSheet ws) where
         go false e =
             let final : i ≡ rounds * (n + 4) =
             omega (arith, ltb-false i (rounds * (n + 4)) e, rw same-number at (claim .size)) in
-            let ending = rw (same-number, same-round (rounds - 1) (omega (arith, claim′ .some))) at (claim .last) in
+            let ending = rw (same-number, same-round (rounds - 1) (omega (arith, claim′ .least))) at (claim .last) in
             rw final (ending ∙ sym (claim′ .last))
 
     same-list : rs ≡ qs

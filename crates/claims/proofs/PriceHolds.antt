@@ -74,8 +74,8 @@ best-price h last os p e some =
 module _ (h : Heading) (os : List Standing) where
   run-no-gaps : {low high : ℕ} → PotentialFrom h os low high → NoGaps h os
   run-no-gaps {low} {high} f = record {
-    first = low;
-    last = high;
+    low = low;
+    high = high;
     from = best-potential h os f Sell;
     to = best-potential h os f Buy;
     between = λ p e. (
@@ -118,8 +118,8 @@ module _ (h : Heading) (os : List Standing) (last : ℕ) where
   run-nearest {low} {high} f =
       let run : held Buy low high x ≤ held Sell low high y = omega (arith, apart, f .some-price) in
       record {
-        first = held Buy low high x;
-        final = held Sell low high y;
+        low = held Buy low high x;
+        high = held Sell low high y;
         from = more-end h os f Buy;
         to = more-end h os f Sell;
         run = run;

@@ -11,7 +11,7 @@ use Rattle.rules.specs.Opening.{roundSpace, openingSpace}
 use Rattle.rules.specs.Result.{count, roundSaid, auctionIn}
 use Rattle.rules.specs.Sheet.{headingOf, AcceptedSheet}
 
--- [13.7] The call `first round` on the sheet ws.
+-- [13.7] What the first round of the sheet ws promises; `firstRound ws space` is the call as the rules have it (10.1).
 pub record FirstRound (ws before after : List ℕ) (answered : Answer) : Type 0 where
   pub writes : Writes (firstRound ws (length before)) before after answered
   -- where the sheet is accepted and the space has the words, the fills that stand in the space meet F1–F4, and every other list of n
@@ -19,7 +19,7 @@ pub record FirstRound (ws before after : List ℕ) (answered : Answer) : Type 0 
   pub filled : AcceptedSheet ws → roundSpace (count ws) ≤ length before
       → Largest (headingOf ws) (auctionIn (roundSaid ws after 0)) (firstStanding ws) (roundSaid ws after 0 .fills)
 
--- [13.9] The call `opening` on the sheet ws.
+-- [13.9] What the opening of the sheet ws promises; `opening ws space` is the call as the rules have it (10.1).
 pub record Opened (ws before after : List ℕ) (answered : Answer) : Type 0 where
   pub writes : Writes (opening ws (length before)) before after answered
   -- where the sheet is accepted and the space has the words, demand 3 holds of the sheet's words and the words given

@@ -80,5 +80,5 @@ pub record Demand3 (ws rs : List ℕ) : Type 0 where
   pub last : getD rs (roundsIn ws rs * (count ws + 4)) 0
       ≡ word 15 (endingAfter (headingOf ws) (roundSaid ws rs (roundsIn ws rs - 1)) * 65536 + roundsIn ws rs)
   -- the rounds are at least 1 and at most n + 1
-  pub some : 1 ≤ roundsIn ws rs
+  pub least : 1 ≤ roundsIn ws rs
   pub most : roundsIn ws rs ≤ count ws + 1

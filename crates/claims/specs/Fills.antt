@@ -32,7 +32,7 @@ pub record Lawful (h : Heading) (a : Auction) (os : List Standing) (fills : List
   -- F4: as much is bought as sold.
   pub F4 : total Buy os fills ≡ total Sell os fills
 
--- [13.2] It does, and every other list of as many numbers that does has a smaller total.
+-- [13.2] The list has a number for each order and meets F1–F4; every other such list has a smaller total.
 pub record Largest (h : Heading) (a : Auction) (os : List Standing) (fills : List ℕ) : Type 0 where
   pub each : length fills ≡ length os
   pub lawful : Lawful h a os fills

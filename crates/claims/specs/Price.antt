@@ -18,13 +18,13 @@ levels h os = overGrid (level h os)
 
 -- [13.3] Every price from a to b is a potential price, and no other is.
 pub record NoGaps (h : Heading) (os : List Standing) : Type 0 where
-  pub first : ℕ
-  pub last : ℕ
-  pub from : a (levels h os) ≡ some first
-  pub to : b (levels h os) ≡ some last
+  pub low : ℕ
+  pub high : ℕ
+  pub from : a (levels h os) ≡ some low
+  pub to : b (levels h os) ≡ some high
   -- a price of the grid is a potential price exactly when it lies from a to b
   pub between : (p : ℕ) → onGrid p ≡ true
-      → ((potential (levels h os) (level h os p) ≡ true) ↔ ((first ≤ p) × (p ≤ last)))
+      → ((potential (levels h os) (level h os p) ≡ true) ↔ ((low ≤ p) × (p ≤ high)))
 
 -- [13.4] The auction price against every price of the grid, in a round where some price carries pieces.
 pub record BestPrice (h : Heading) (os : List Standing) (price : ℕ) : Type 0 where
@@ -40,13 +40,13 @@ distance p q = (p - q) + (q - p)
 
 -- [13.5] The auction price among the prices from l to r, in such a round, after a last purchase price.
 pub record Nearest (h : Heading) (os : List Standing) (last price : ℕ) : Type 0 where
-  pub first : ℕ
-  pub final : ℕ
-  pub from : l (levels h os) ≡ some first
-  pub to : r (levels h os) ≡ some final
+  pub low : ℕ
+  pub high : ℕ
+  pub from : l (levels h os) ≡ some low
+  pub to : r (levels h os) ≡ some high
   -- l is at most r
-  pub run : first ≤ final
+  pub run : low ≤ high
   -- the auction price lies there
-  pub within : (first ≤ price) × (price ≤ final)
+  pub within : (low ≤ price) × (price ≤ high)
   -- and no price there is nearer the last purchase price
-  pub none-nearer : (p : ℕ) → first ≤ p → p ≤ final → distance price last ≤ distance p last
+  pub none-nearer : (p : ℕ) → low ≤ p → p ≤ high → distance price last ≤ distance p last

@@ -20,7 +20,7 @@ use Rattle.rules.specs.declared.Standing.{Standing}
 abbrev pub curve : Side → List Standing → ℕ → ℕ
 curve s os p = piecesAt (λ k. true) s os p
 
--- [5.1] Of the buys it is the demand, of the sells the supply.
+-- [5.1] Demand is the curve of the buys, supply that of the sells.
 abbrev pub demand : List Standing → ℕ → ℕ
 demand = curve Buy
 
@@ -40,11 +40,11 @@ pub record Level : Type 0 where
 unfoldable pub level : Heading → List Standing → ℕ → Level
 level h os p = record { within = inBand h p; demand = demand os p; supply = supply os p }
 
--- [5.3] The smaller of demand and supply;
+-- [5.3] The volume of a price is the smaller of its demand and its supply.
 abbrev pub volume : Level → ℕ
 volume v = min (v .demand) (v .supply)
 
--- [5.3] so many pieces a price carries in a round.
+-- [5.3] What a price carries in a round is its volume.
 abbrev pub carries : Heading → List Standing → ℕ → ℕ
 carries h os p = volume (level h os p)
 
@@ -86,22 +86,22 @@ module _ (prices : Scan Level) where
   abbrev pub maximiser : Level → Bool
   maximiser v = eqb (volume v) greatestVolume
 
-  -- [5.7] The maximisers in the band; all of them, if it has none.
+  -- [5.7] Potential prices are the maximisers in the band, or all maximisers where it has none.
   abbrev pub potential : Level → Bool
   potential v = cond (found (highest (λ w. w .within && maximiser w))) (v .within && maximiser v) (maximiser v)
 
-  -- [5.8] The lowest potential price, and the highest.
+  -- [5.8] a is the lowest potential price, b the highest.
   abbrev pub a : Option ℕ
   a = lowest potential
 
   abbrev pub b : Option ℕ
   b = highest potential
 
-  -- [5.9] The highest potential price with more demand than supply, or a;
+  -- [5.9] l is the highest potential price with more demand than supply, or a where there is none.
   abbrev pub l : Option ℕ
   l = orElse (highest (λ v. potential v && ltb (v .supply) (v .demand))) a
 
-  -- [5.9] the lowest with more supply than demand, or b.
+  -- [5.9] r is the lowest potential price with more supply than demand, or b where there is none.
   abbrev pub r : Option ℕ
   r = orElse (lowest (λ v. potential v && ltb (v .demand) (v .supply))) b
 
@@ -109,7 +109,7 @@ module _ (prices : Scan Level) where
   abbrev pub crossed : ℕ → Auction
   crossed last = record { situation = 0; price = nearestFound l r last }
 
--- [5.11] Situations 1–4, by the highest price of the band with demand and the lowest with supply. 1, supply alone:
+-- [5.11] Situations 1–4, by the highest price of the band with demand and then the lowest with supply, or none. 1, supply alone:
 -- its lowest price, but at most I. 2, demand alone: its highest price, but at least I. 3, both: of the prices from
 -- one to the other the nearest the last purchase price. 4, neither: the last purchase price.
 unfoldable pub uncrossed : Heading → ℕ → Option ℕ → Option ℕ → Auction

@@ -29,21 +29,21 @@ indicativePrice D H traded closing auction =
 
 -- ---- The next band
 
--- [9.4] 100 + q hundredths of I, rounded down; 1 above I where that is I.
+-- [9.4] The upper bound is I × (100 + q) / 100, rounded down, or I + 1 where that is I.
 abbrev pub upperRounded : ℕ → ℕ → ℕ
 upperRounded q I = I * (100 + q) / 100
 
 unfoldable pub nextUpper : ℕ → ℕ → ℕ
 nextUpper q I = cond (eqb (upperRounded q I) I) (I + 1) (upperRounded q I)
 
--- [9.4] 100 − q hundredths of I, rounded up; 1 below I where that is I.
+-- [9.4] The lower bound is I × (100 − q) / 100, rounded up, or I − 1 where that is I.
 abbrev pub lowerRounded : ℕ → ℕ → ℕ
 lowerRounded q I = roundedUp (I * (100 - q)) 100
 
 unfoldable pub nextLower : ℕ → ℕ → ℕ
 nextLower q I = cond (eqb (lowerRounded q I) I) (I - 1) (lowerRounded q I)
 
--- [9.5] 20 percent for shares, code 0; 25 for certificates.
+-- [9.5] Shares, code 0, have 20 percent, certificates 25. Only codes 0 and 1 come here (9.6).
 unfoldable pub percentOf : ℕ → ℕ
 percentOf code = cond (eqb code 0) 20 25
 
@@ -58,11 +58,11 @@ nextBand code I = downwards (row 9 (not (onGrid I && leb code 1)) ∷ []) (nextB
 
 -- ---- Widening after waiting
 
--- [9.7] Side 0: 11 tenths of the upper bound, rounded down.
+-- [9.7] Side 0 makes the upper bound 11 tenths of itself, rounded down; else it stays.
 unfoldable pub widenedUpper : ℕ → ℕ → ℕ
 widenedUpper side H = cond (eqb side 0) (11 * H / 10) H
 
--- [9.7] Side 1: 9 tenths of the lower bound, rounded up.
+-- [9.7] Side 0 leaves the lower bound; else it is 9 tenths of itself, rounded up. Only sides 0 and 1 come here (9.8).
 unfoldable pub widenedLower : ℕ → ℕ → ℕ
 widenedLower side D = cond (eqb side 0) D (roundedUp (9 * D) 10)
 

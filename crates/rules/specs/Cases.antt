@@ -162,7 +162,7 @@ documentCases =
 unfoldable pub furtherCases : List Case
 furtherCases =
     -- An error that tempts: to skip an all-or-none order for which there are too few pieces, and to serve those after it. Of the
-    -- sells 4 are basic and 8 all-or-none, so they can sell up to 4, or 12; the buys can buy 10 or 11. The buy of 1 gets nothing.
+    -- sells 4 are basic and 8 all-or-none, so they can sell up to 4, or 12; the buys nothing, 10 or 11. The buy of 1 gets nothing.
     opens (allOrNoneBuy 10 105 ∷ buy 1 100 ∷ sell 4 95 ∷ allOrNoneSell 8 95 ∷ [])
     (run 0 95 0 0 (0 ∷ 0 ∷ 0 ∷ 0 ∷ []) ∷ [])
     1
@@ -216,11 +216,13 @@ furtherCases =
     ∷ case (stepperLimit (sheet (stepperBuy 7 108 0 ∷ [])) 1) (refuses 9 0)
     ∷ case (curvesAt listing 0) (refuses 9 0)
     ∷ case (curvesAt listing 1000001) (refuses 9 0)
-    -- the listing's sheet is accepted; its first four words alone are too few; I may not be D; 121 orders are too many
+    -- the listing's sheet is accepted; its first four words alone are too few; I may not be D; a heading of 121
+    -- orders alone is too short, and with all their words there are too many
     ∷ case (check listing) (gives [])
     ∷ case (check (0x1000005a ∷ 0x2000006e ∷ 0x30000064 ∷ 0x40000064 ∷ [])) (refuses 1 0)
     ∷ case (check (0x1000005a ∷ 0x2000006e ∷ 0x30000064 ∷ 0x4000005a ∷ 0x50000000 ∷ [])) (refuses 3 0)
     ∷ case (check (0x1000005a ∷ 0x2000006e ∷ 0x30000064 ∷ 0x40000064 ∷ 0x50000079 ∷ [])) (refuses 4 0)
+    ∷ case (check (0x1000005a ∷ 0x2000006e ∷ 0x30000064 ∷ 0x40000064 ∷ 0x50000079 ∷ replicate 363 0)) (refuses 4 0)
     -- a wrong kind comes before a price off the grid; a last purchase price off the grid; a word too many
     ∷ case (check (0x1000005a ∷ 0x2000006e ∷ 0x30000000 ∷ 0x50000064 ∷ 0x50000000 ∷ [])) (refuses 2 0)
     ∷ case (check (0x1000005a ∷ 0x2000006e ∷ 0x30000000 ∷ 0x40000064 ∷ 0x50000000 ∷ [])) (refuses 3 0)

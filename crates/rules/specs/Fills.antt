@@ -18,25 +18,26 @@ use Rattle.rules.specs.declared.Standing.{Standing}
 
 -- ---- Eligible orders and their priority
 
--- [6.1] The auction price, moved into the band.
+-- [6.1] The price at which pieces trade, if any do: the auction price moved into the band.
 abbrev pub potentialPurchase : Heading → Auction → ℕ
 potentialPurchase h a = movedInto (D h) (H h) (a .price)
 
--- [6.2] In situation 0, an order whose limit in force allows that price.
+-- [6.2] In situation 0 an order is eligible whose limit in force allows the potential purchase price.
 unfoldable pub eligible : Heading → Auction → Standing → Bool
 eligible h a o = eqb (a .situation) 0 && allows (o .side) (o .limit .0) (potentialPurchase h a)
 
--- [6.3] For priority no buy's limit counts above H, and no sell's below D.
+-- [6.3] The limit that counts for priority: a buy's above H counts as H, a sell's below D as D.
 abbrev pub priorityLimit : Heading → Side → ℕ → ℕ
 priorityLimit h Buy limit = min limit (H h)
 priorityLimit h Sell limit = max limit (D h)
 
--- [6.3] The better limit goes first,
+-- [6.3] The better limit goes first: of buys the higher, of sells the lower.
 abbrev pub firstBy : Side → ℕ → ℕ → Bool
 firstBy Buy l m = ltb m l
 firstBy Sell l m = ltb l m
 
--- [6.3] then whoever is not all-or-none, then the lower number.
+-- [6.3] Of two orders i and j with equal limits, where a and b tell whether they are all-or-none, i goes first if only j is,
+-- or if they are alike in that and i is the lower number.
 abbrev pub filedFirst : Bool → Bool → ℕ → ℕ → Bool
 filedFirst a b i j = not a && b || Bool·beq a b && ltb i j
 
@@ -77,7 +78,8 @@ unfoldable pub ahead : Heading → Auction → List Standing → ℕ → ℕ
 ahead h a os k =
     sumTo (λ j. cond (eligible h a (numbered os j) && rankedBefore h os j k) (numbered os j .remaining .0) 0) (length os)
 
--- [6.5] What order k gets of its side's total: what is left after those ranked before it, at most what remains of it.
+-- [6.5] What order k gets of its side's total: if it is eligible, what the eligible orders ranked before it leave, at most what
+-- remains of it; else 0.
 unfoldable pub share : Heading → Auction → List Standing → ℕ → ℕ → ℕ
 share h a os sum k =
     cond (eligible h a (numbered os k)) (min (numbered os k .remaining .0) (sum - ahead h a os k)) 0
@@ -88,7 +90,7 @@ unsplit h a os sum k =
     not (numbered os k .«all_or_none»)
     || (eqb (share h a os sum k) (numbered os k .remaining .0) || eqb (share h a os sum k) 0)
 
--- [6.6] Side s can lawfully reach a total: it has the pieces, and no all-or-none order of it is split.
+-- [6.6] Side s can lawfully reach a total: its eligible orders have the pieces, and no all-or-none order of it is split.
 unfoldable pub reaches : Heading → Auction → List Standing → Side → ℕ → Bool
 reaches h a os s sum =
     leb sum (offered h a os s)
@@ -104,6 +106,6 @@ fillsOf h a os = listed (share h a os (largestTotal h a os)) (length os)
 
 -- ---- The purchase price
 
--- [6.8] The potential purchase price where a piece trades, else 0.
+-- [6.8] The purchase price is the potential one where a piece trades, else 0.
 abbrev pub purchasePrice : Heading → Auction → ℕ → ℕ
 purchasePrice h a sum = cond (leb 1 sum) (potentialPurchase h a) 0

@@ -25,7 +25,7 @@ abbrev pub nth : Side → ℕ → ℕ
 nth Buy k = k
 nth Sell k = lastPrice + 1 - k
 
--- [1.4] The best for side s of its k worst prices that pass the test, or none.
+-- [1.4] Among the k worst prices for side s the best one that passes the test, or none.
 unfoldable pub bestAmong : Side → (ℕ → Bool) → ℕ → Option ℕ
 bestAmong s P zero = none
 bestAmong s P (suc k) = cond (P (nth s (suc k))) (some (nth s (suc k))) (bestAmong s P k)
@@ -48,12 +48,12 @@ overGrid f = record {
   greatest = λ v. greatestTo (λ p. v (f p)) lastPrice;
 }
 
--- [1.4] Whether a price was found;
+-- [1.4] Whether a price was found.
 abbrev pub found : Option ℕ → Bool
 found (some p) = true
 found none = false
 
--- [1.4] the price that was found, or another if none was.
+-- [1.4] The price that was found, or another if none was.
 abbrev pub orElse : Option ℕ → Option ℕ → Option ℕ
 orElse (some p) other = some p
 orElse none other = other

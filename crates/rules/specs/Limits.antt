@@ -99,8 +99,9 @@ rivalPieces h orders remaining k p = piecesAt (others k) (filed orders k .side) 
 abbrev pub bestRival : Scan ℕ → Side → ℕ → Option ℕ
 bestRival rivals s ignored = rivals .best s (λ pieces. ltb ignored pieces)
 
--- [4.6] A buy: 1 above the best rival and at least D, or D without a rival; at most its entered limit. A sell: 1
--- below it and at most H, or H without a rival; at least its entered limit.
+-- [4.6] A buying Stepper goes to 1 above its best rival price but at least to D, and to D where there is no such price;
+-- at most to its entered limit. A selling one goes to 1 below its best rival price but at most to H, and to H where
+-- there is no such price; at least to its entered limit.
 unfoldable pub stepped : Heading → Side → ℕ → Option ℕ → ℕ
 stepped h Buy limit (some rival) = min limit (max (D h) (rival + 1))
 stepped h Buy limit none = min limit (D h)

@@ -42,26 +42,26 @@ abbrev pub ascii : String → List ℕ
 ascii empty = []
 ascii (c and s) = code c ∷ ascii s
 
--- [11.3] A word in 8 hexadecimal digits, and the end of the line;
+-- [11.3] The line of a word: its 8 hexadecimal digits and a newline.
 unfoldable pub wordLine : ℕ → List ℕ
 wordLine w = digits 16 8 w ++ ascii "\n"
 
--- [11.3] one line after the other.
+-- [11.3] The lines of words, one after the other.
 unfoldable pub wordLines : List ℕ → List ℕ
 wordLines [] = []
 wordLines (w ∷ ws) = wordLine w ++ wordLines ws
 
 -- [11.4] A number in decimal: the last figure is n % 10, those before it are the figures of n / 10. Here at most
--- `most` of them;
+-- `most` of them.
 unfoldable pub figuresIn : ℕ → ℕ → List ℕ
 figuresIn zero n = []
 figuresIn (suc most) n = cond (ltb n 10) [] (figuresIn most (n / 10)) ++ (glyph (n % 10) ∷ [])
 
--- [11.4] a number n has no more than n + 1.
+-- [11.4] All figures of a number; n has no more than n + 1.
 unfoldable pub figures : ℕ → List ℕ
 figures n = figuresIn (n + 1) n
 
--- [11.4] `refused`, the number and the place.
+-- [11.4] The line of a refusal: `refused`, its number and its place.
 unfoldable pub refusalLine : ℕ → ℕ → List ℕ
 refusalLine number place =
     ascii "refused " ++ figures number ++ ascii " " ++ figures place ++ ascii "\n"

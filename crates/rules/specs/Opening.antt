@@ -68,7 +68,8 @@ firstStart ws = record {
   remaining = map (λ (o : Order). o .quantity .0) (ordersOf ws);
 }
 
--- [7.4] Then an order keeps what it did not get, and a purchase price, unless 0, is the last one from now on.
+-- [7.4] After a round an order keeps what it did not get, and the purchase price, unless it is 0, is the last purchase price
+-- from then on.
 unfoldable pub after : Start → Round → Start
 after s r = record {
   last = cond (ltb 0 (r .purchase)) (r .purchase) (s .last);
@@ -85,7 +86,8 @@ unfoldable pub endingAfter : Heading → Round → ℕ
 endingAfter h r = cond (eqb (r .situation) 0) (cond (inBand h (r .price)) 1 2) 0
 
 -- [7.7] The rounds from a start on, where round s is the round that starts from s, and at most `more` rounds after
--- the first. An opening of n orders has at most n + 1 rounds, as each that goes on fills an order completely.
+-- the first. An opening of n orders has at most n + 1 rounds, as each that goes on uses up an order that still had
+-- pieces; so none is cut short.
 unfoldable pub roundsFrom : (Start → Round) → Heading → ℕ → Start → List Round
 roundsFrom round h zero s = round s ∷ []
 roundsFrom round h (suc more) s =
@@ -110,7 +112,7 @@ endingOf h [] = 0
 endingOf h (r ∷ []) = endingAfter h r
 endingOf h (r ∷ q ∷ rs) = endingOf h (q ∷ rs)
 
--- [7.9] Behind all rounds the word of kind 15: ending × 65,536, and the number of rounds.
+-- [7.9] Behind the words of all rounds stands one of kind 15: ending × 65,536 + the number of rounds.
 unfoldable pub resultWords : Heading → List Round → List ℕ
 resultWords h rs = roundsWords rs ++ (word 15 (endingOf h rs * 65536 + length rs) ∷ [])
 

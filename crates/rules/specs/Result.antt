@@ -1,5 +1,5 @@
 -- Clauses 8.1–8.4 of docs/RULES.md: what the words of a result say. A reader holds a sheet ws and the result words rs
--- of its opening; what a round starts from is worked out from these two lists alone.
+-- of its opening; all that a round started from follows from these two lists.
 use mathlib.Core.List.{List}
 use Prim.Native.Nat.{ℕ, zero, suc, _+_, _*_, _/_}
 use lib.ListN.{length}

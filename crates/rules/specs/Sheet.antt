@@ -26,7 +26,7 @@ headingWords = 5
 abbrev pub orderWords : ℕ
 orderWords = 3
 
--- [3.1] Where the words of order k begin; where there is no such order, the sheet ends there.
+-- [3.1] Where the words of order k begin; of k = n, the number of orders, it is the length of the sheet.
 abbrev pub orderPlace : ℕ → ℕ
 orderPlace k = headingWords + orderWords * k
 
@@ -68,11 +68,11 @@ pricesOnGrid h = onGrid (h .lower .0) && onGrid (h .upper .0) && onGrid (h .last
 unfoldable pub bandEncloses : Heading → Bool
 bandEncloses h = ltb (h .lower .0) (h .indicative .0) && ltb (h .indicative .0) (h .upper .0)
 
--- [3.5] At most 120 orders,
+-- [3.5] The most orders of a sheet.
 abbrev pub mostOrders : ℕ
 mostOrders = 120
 
--- [3.5] and as many words as the heading and they take.
+-- [3.5] There are no more than that, and as many words as the heading and they take.
 unfoldable pub lengthFits : ℕ → ℕ → Bool
 lengthFits n words = leb n mostOrders && eqb words (orderPlace n)
 

@@ -8,7 +8,7 @@ use Rattle.rules.specs.declared.Word.{Word}
 abbrev pub wordOf : ℕ → Word
 wordOf w = record { kind = w / 0x1000_0000; value = w % 0x1000_0000 }
 
--- [1.5] Word number i of a list, counted from 0.
+-- [1.5] Word number i of a list, counted from 0; one that is not there reads as 0.
 abbrev pub wordAt : List ℕ → ℕ → Word
 wordAt ws i = wordOf (getD ws i 0)
 
