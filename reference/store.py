@@ -58,7 +58,8 @@ def large_sort(answer):
 
 def sort_of(line, answer):
     """What a line is picked as: a refusal's number, a sort of small or of large, or None."""
-    orders = (len(line.split()) - 7) // 3
+    words = line.split()[1:] if kind == "check" else line.split()[2:]
+    orders = (len(words) - 5) // 3
     if len(line) > LONGEST:
         return None
     if answer.startswith("refused"):

@@ -1,6 +1,6 @@
 -- The fills that the function `fillsOf` gives are those that are meant: they meet F1–F4, and every other list of fills
 -- that meets them has a smaller total. F1 and F2 leave a side one way to hand out its total, the one by priority; so a lawful
--- list is known by its total, and each lawful total is one that both sides can piecePlace.
+-- list is known by its total, and each lawful total is one that both sides can reach.
 use mathlib.Core.Bool.{Bool, true, false, not, _&&_, _||_, cond, false≢true}
 use mathlib.Core.List.{List}
 use mathlib.Core.Logic.{_⊎_, inl, inr, _≢_}
@@ -147,7 +147,7 @@ module _ (h : Heading) (a : Auction) (os : List Standing) (band : D h ≤ H h) w
             whole (inl full) = rw (eq-eqb (f k) (left os k) full)
             whole (inr none) = or-right (eqb (f k) (left os k)) (eq-eqb (f k) 0 none)
 
-    -- so the side can piecePlace its total
+    -- so the side can reach its total
     total-reached : (s : Side) → reaches h a os s (total s os fills) ≡ true
     unfolding reaches
     total-reached s = rw (le-leb _ _ (total-offered s), every-from _ n (λ k l. whole k l (sameSide s (side os k)) refl))
@@ -204,7 +204,7 @@ module _ (h : Heading) (a : Auction) (os : List Standing) (band : D h ≤ H h) w
           → min (left os k) (sum - ahead h a os k) ≡ 0
       nothing l m = omega arith
 
-  -- F3: of a total that a side can piecePlace
+  -- F3: of a total that a side can reach
   all-or-nothing : (k : ℕ) → k < n → numbered os k .«all_or_none» ≡ true → FilledCompletely os fills k ⊎ (fillOf fills k ≡ 0)
   all-or-nothing k l e =
       let whole = reached-unsplit h a os (side os k) sum k (largest-reached h a os (side os k)) l (side-same (side os k)) in

@@ -1,4 +1,4 @@
--- The totals that a side can lawfully piecePlace: nothing is one of them, and the largest that both sides can piecePlace is one of both.
+-- The totals that a side can lawfully reach: nothing is one of them, and the largest that both sides can reach is one of both.
 use mathlib.Core.Bool.{Bool, true, false, not, _&&_, _||_, cond}
 use mathlib.Core.List.{List}
 use mathlib.Core.Logic.{_⊎_, inl, inr}
@@ -74,7 +74,7 @@ module _ (h : Heading) (a : Auction) (os : List Standing) where
   abbrev reached : ℕ → Bool
   reached sum = reaches h a os Buy sum && reaches h a os Sell sum
 
-  -- of nothing everybody gets nothing, and a side can piecePlace it
+  -- of nothing everybody gets nothing, and a side can reach it
   share-none : (k : ℕ) → share h a os 0 k ≡ 0
   unfolding share
   share-none k = go (el h a os k)
@@ -93,7 +93,7 @@ module _ (h : Heading) (a : Auction) (os : List Standing) where
           (or-right (not (numbered os k .«all_or_none»))
           (or-right (eqb (share h a os 0 k) (left os k)) (eq-eqb (share h a os 0 k) 0 (share-none k))))
 
-  -- both sides can piecePlace the largest total
+  -- both sides can reach the largest total
   pub largest-reached : (s : Side) → reaches h a os s (largestTotal h a os) ≡ true
   unfolding largestTotal
   largest-reached s = one s (largestTo reached most) (largest-ok reached most (rw (reaches-none Buy, reaches-none Sell)))
@@ -113,7 +113,7 @@ module _ (h : Heading) (a : Auction) (os : List Standing) where
       let each = both {a = leb x (offered h a os s)} e .1 in
       rw q at (every-at (λ k. not (sameSide s (side os k)) || unsplit h a os x k) n k each l)
 
-  -- no total that both sides can piecePlace is larger
+  -- no total that both sides can reach is larger
   pub largest-most : (sum : ℕ) → reaches h a os Buy sum ≡ true → reaches h a os Sell sum ≡ true → sum ≤ largestTotal h a os
   unfolding largestTotal
   largest-most sum e f =

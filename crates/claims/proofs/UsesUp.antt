@@ -1,6 +1,6 @@
 -- A round with a total of at least 1 fills some order completely. If it did not, the order of each side that gets the last
 -- piece would be filled in part and could take one piece more, those before it being filled and those after it empty; so both
--- sides could piecePlace a larger total.
+-- sides could reach a larger total.
 use mathlib.Core.Bool.{Bool, true, false, not, _&&_, _||_, cond, false≢true}
 use mathlib.Core.List.{List}
 use mathlib.Core.Logic.{_⊎_, inl, inr}
@@ -118,7 +118,7 @@ module _ (h : Heading) (a : Auction) (os : List Standing) (band : D h ≤ H h) w
             let q : ahead h a os k + left os k ≤ ahead h a os j = ahead-more h a os k j l taken b in
             share-of h a os (sum + 1) j e ∙ omega (arith, ends-within)
 
-    -- so its side can piecePlace one piece more
+    -- so its side can reach one piece more
     one-more : reaches h a os (side os k) (sum + 1) ≡ true
     unfolding reaches
     one-more = rw (le-leb _ _ enough, every-from _ n (λ j m. whole j m (sameSide (side os k) (side os j)) refl))

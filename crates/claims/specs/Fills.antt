@@ -36,5 +36,5 @@ pub record Lawful (h : Heading) (a : Auction) (os : List Standing) (fills : List
 pub record Largest (h : Heading) (a : Auction) (os : List Standing) (fills : List ℕ) : Type 0 where
   pub each : length fills ≡ length os
   pub lawful : Lawful h a os fills
-  pub largest : (others : List ℕ) → length others ≡ length os → Lawful h a os others → others ≢ fills
-      → total Buy os others < total Buy os fills
+  pub largest : (other : List ℕ) → length other ≡ length os → Lawful h a os other → other ≢ fills
+      → total Buy os other < total Buy os fills

@@ -114,8 +114,8 @@ limitInForce h s (WithoutLimit a) rivals = enteredLimit h s (WithoutLimit a)
 limitInForce h s (Limited l a) rivals = enteredLimit h s (Limited l a)
 limitInForce h s (Stepper l q) rivals = stepped h s (enteredLimit h s (Stepper l q)) (bestRival rivals s (q .0))
 
--- [4.7] The orders at their limits in force, where rivals k has the prices of the grid by the pieces of order k's
--- rivals.
+-- [4.7] The orders at their limits in force, where rivals k is the look through the grid in which each price has the
+-- pieces that order k's rivals have there.
 unfoldable pub standingBy : (ℕ → Scan ℕ) → Heading → List Order → List ℕ → List Standing
 standingBy rivals h orders remaining =
     listed

@@ -25,7 +25,9 @@ pub record Start : Type 0 where
 -- [7.1] What a round gives.
 pub record Round : Type 0 where
   pub situation : ℕ
+  -- the auction price
   pub price : ℕ
+  -- the purchase price
   pub purchase : ℕ
   pub total : ℕ
   pub fills : List ℕ
