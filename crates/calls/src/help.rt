@@ -18,7 +18,12 @@ pub(crate) fn help() {
         b"  round SPACE WORD ..                    the first round's words, in a space of SPACE words",
     );
     say(b"  opening SPACE WORD ..                  the opening's words, in such a space");
-    say(b"  indicative D H COUNT CLOSING AUCTION   the indicative price");
+    say(
+        b"  indicative D H COUNT CLOSING AUCTION   the indicative price, by the count of pieces traded,",
+    );
+    say(
+        b"                                         the closing purchase price, the last auction price",
+    );
     say(
         b"  next CODE I                            the next band of shares (0) or certificates (1)",
     );

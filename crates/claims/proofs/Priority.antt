@@ -11,7 +11,7 @@ use borrow.Author.Tests.{leb-true, le-leb, ltb-true, ltb-false, lt-ltb, le-ltb, 
 use Rattle.claims.proofs.Places.{same-test}
 use Rattle.rules.proofs.Grid.{both, moved-within}
 use Rattle.rules.specs.AuctionPrice.{Auction}
-use Rattle.rules.specs.Fills.{potentialPurchase, eligible, priorityLimit, firstBy, filedFirst, firstOf}
+use Rattle.rules.specs.Fills.{potentialPurchase, eligible, priorityLimit, firstBy, firstAtEqualLimits, firstOf}
 use Rattle.rules.specs.Limits.{sameSide, allows}
 use Rattle.rules.specs.Sheet.{D, H}
 use Rattle.rules.specs.declared.Heading.{Heading}
@@ -107,7 +107,7 @@ equal-by h Buy l m =
 equal-by h Sell l m = refl
 
 filed-by : (p q : Bool) (i j : ℕ)
-    → filedFirst p q i j ≡ (ltb (lateness p) (lateness q) || eqb (lateness p) (lateness q) && ltb i j)
+    → firstAtEqualLimits p q i j ≡ (ltb (lateness p) (lateness q) || eqb (lateness p) (lateness q) && ltb i j)
 filed-by true true i j = refl
 filed-by true false i j = refl
 filed-by false true i j = refl
@@ -147,7 +147,7 @@ module _ (h : Heading) where
   -- of two orders of one side, by the three numbers
   own-side : (s : Side) (l m : ℕ) (p q : Bool) (i j : ℕ)
       → (firstBy s (priorityLimit h s l) (priorityLimit h s m)
-      || eqb (priorityLimit h s l) (priorityLimit h s m) && filedFirst p q i j)
+      || eqb (priorityLimit h s l) (priorityLimit h s m) && firstAtEqualLimits p q i j)
       ≡ lex (classOf h s l) (lateness p) i (classOf h s m) (lateness q) j
   own-side s l m p q i j = rw (first-by h s l m, equal-by h s l m, filed-by p q i j)
 
@@ -160,7 +160,7 @@ module _ (h : Heading) where
           → (sameSide s t
           && (firstBy s (priorityLimit h s (a .limit .0)) (priorityLimit h t (b .limit .0))
           || eqb (priorityLimit h s (a .limit .0)) (priorityLimit h t (b .limit .0))
-          && filedFirst (a .«all_or_none») (b .«all_or_none») i j))
+          && firstAtEqualLimits (a .«all_or_none») (b .«all_or_none») i j))
           ≡ (sameSide s t && lex (classOf h s (a .limit .0)) (late a) i (classOf h t (b .limit .0)) (late b) j)
       go Buy Buy = own-side Buy (a .limit .0) (b .limit .0) (a .«all_or_none») (b .«all_or_none») i j
       go Buy Sell = refl

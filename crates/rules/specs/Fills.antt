@@ -36,18 +36,18 @@ abbrev pub firstBy : Side → ℕ → ℕ → Bool
 firstBy Buy l m = ltb m l
 firstBy Sell l m = ltb l m
 
--- [6.3] Of two orders i and j with equal limits, where a and b tell whether they are all-or-none, i goes first if only j is,
--- or if they are alike in that and i is the lower number.
-abbrev pub filedFirst : Bool → Bool → ℕ → ℕ → Bool
-filedFirst a b i j = not a && b || Bool·beq a b && ltb i j
+-- [6.3] Of two orders i and j with equal limits, where x and y tell whether they are all-or-none, i goes first if j is and
+-- i is not, or if they are alike in that and i is the lower number.
+abbrev pub firstAtEqualLimits : Bool → Bool → ℕ → ℕ → Bool
+firstAtEqualLimits x y i j = not x && y || Bool·beq x y && ltb i j
 
--- [6.3] An order a of number i is ranked before an order b of number j on its side.
+-- [6.3] An order o of number i is ranked before an order q of number j on its side.
 unfoldable pub firstOf : Heading → Standing → Standing → ℕ → ℕ → Bool
-firstOf h a b i j =
-    sameSide (a .side) (b .side)
-    && (firstBy (a .side) (priorityLimit h (a .side) (a .limit .0)) (priorityLimit h (b .side) (b .limit .0))
-    || eqb (priorityLimit h (a .side) (a .limit .0)) (priorityLimit h (b .side) (b .limit .0))
-    && filedFirst (a .«all_or_none») (b .«all_or_none») i j)
+firstOf h o q i j =
+    sameSide (o .side) (q .side)
+    && (firstBy (o .side) (priorityLimit h (o .side) (o .limit .0)) (priorityLimit h (q .side) (q .limit .0))
+    || eqb (priorityLimit h (o .side) (o .limit .0)) (priorityLimit h (q .side) (q .limit .0))
+    && firstAtEqualLimits (o .«all_or_none») (q .«all_or_none») i j)
 
 abbrev pub rankedBefore : Heading → List Standing → ℕ → ℕ → Bool
 rankedBefore h os i j = firstOf h (numbered os i) (numbered os j) i j
