@@ -36,7 +36,7 @@ abbrev pub firstBy : Side → ℕ → ℕ → Bool
 firstBy Buy l m = ltb m l
 firstBy Sell l m = ltb l m
 
--- [6.3] Of two orders i and j with equal limits, where x and y tell whether they are all-or-none, i goes first if j is and
+-- [6.3] Of two orders i and j with equal priority limits, where x and y tell whether they are all-or-none, i goes first if j is and
 -- i is not, or if they are alike in that and i is the lower number.
 abbrev pub firstAtEqualLimits : Bool → Bool → ℕ → ℕ → Bool
 firstAtEqualLimits x y i j = not x && y || Bool·beq x y && ltb i j
