@@ -1,21 +1,6 @@
-//! A second implementation of the opening auction of document 01, to compare with.
+//! The second implementation as a program: answers calls, compares its two ways, draws random lines.
 
-mod agree;
-mod answer;
-mod band;
-mod calls;
-#[cfg(test)]
-mod cases;
-mod chains;
-mod damage;
-mod fast;
-mod lines;
-mod literal;
-mod random;
-mod refusal;
-mod shapes;
-mod sheet;
-
+use reference::{agree, calls, lines, random};
 use std::io::{stdin, stdout, BufWriter, Read, Write};
 use std::process::ExitCode;
 

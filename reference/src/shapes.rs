@@ -33,9 +33,18 @@ pub struct Mix {
     pub ignored: u64,
 }
 
+/// How many lots there are to draw a shape by, and those that come upon their sheet by many openings of others.
+pub const LOTS: u64 = 16;
+pub const SLOW_LOTS: [u64; 2] = [3, 4];
+
 /// A sheet of a shape drawn by lot.
 pub fn random_sheet(random: &mut Random, sizes: Sizes) -> Sheet {
-    let sheet = match random.below(16) {
+    let lot = random.below(LOTS);
+    sheet_by_lot(random, sizes, lot)
+}
+
+pub fn sheet_by_lot(random: &mut Random, sizes: Sizes, lot: u64) -> Sheet {
+    let sheet = match lot {
         0 | 1 => chain_sheet(random, sizes),
         2 => disturbed_chain(random, sizes),
         3 | 4 => climbed_sheet(random, sizes),

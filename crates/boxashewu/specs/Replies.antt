@@ -1,0 +1,46 @@
+-- Clause 10.7 of docs/RULES.md: what the library hands to a program in C or in Rust, the answer of a call as a record
+-- of plain numbers.
+use Prim.Native.Nat.{ℕ}
+use lib.ListN.{length, getD}
+use Rattle.rules.specs.Answers.{Answer, gives, refuses}
+use Rattle.rules.specs.Calls.{wordsGiven}
+use Rattle.boxashewu.specs.declared.replies.BandReply.{BandReply}
+use Rattle.boxashewu.specs.declared.replies.CurvesReply.{CurvesReply}
+use Rattle.boxashewu.specs.declared.replies.PriceReply.{PriceReply}
+use Rattle.boxashewu.specs.declared.replies.SheetReply.{SheetReply}
+use Rattle.boxashewu.specs.declared.replies.SpaceReply.{SpaceReply}
+
+-- [10.7] The number of the refusal. Where the call answers it is 0, which no refusal has.
+abbrev pub refusalIn : Answer → ℕ
+refusalIn (gives vs) = 0
+refusalIn (refuses number place) = number
+
+-- [10.7] The place of the refusal, the order at fault; 0 where the call answers.
+abbrev pub orderIn : Answer → ℕ
+orderIn (gives vs) = 0
+orderIn (refuses number place) = place
+
+-- [10.7] The number that an answer gives at place i; 0 where it gives none there.
+abbrev pub givenAt : Answer → ℕ → ℕ
+givenAt a i = getD (wordsGiven a) i 0
+
+-- [10.7] A sheet that is checked.
+abbrev pub sheetReply : Answer → SheetReply
+sheetReply a = record { refusal = refusalIn a; order = orderIn a }
+
+-- [10.7] A price.
+abbrev pub priceReply : Answer → PriceReply
+priceReply a = record { refusal = refusalIn a; order = orderIn a; price = givenAt a 0 }
+
+-- [10.7] Demand, supply and volume.
+abbrev pub curvesReply : Answer → CurvesReply
+curvesReply a =
+    record { refusal = refusalIn a; order = orderIn a; demand = givenAt a 0; supply = givenAt a 1; volume = givenAt a 2 }
+
+-- [10.7] How many words are given; they stand in the lent space.
+abbrev pub spaceReply : Answer → SpaceReply
+spaceReply a = record { refusal = refusalIn a; order = orderIn a; count = length (wordsGiven a) }
+
+-- [10.7] The lower bound, then the upper.
+abbrev pub bandReply : Answer → BandReply
+bandReply a = record { refusal = refusalIn a; order = orderIn a; lower = givenAt a 0; upper = givenAt a 1 }

@@ -1,0 +1,156 @@
+/* Every call of the library from C: answers lines as the program `calls` does (it takes lines that can be read; --help of that
+ * program tells what they are), and says on standard error how much stack the calls took. It fails if that is more than the
+ * header allows. */
+#define _DEFAULT_SOURCE
+#include "boxashewu.h"
+#include <inttypes.h>
+#include <pthread.h>
+#include <stdio.h>
+#include <stdlib.h>
+#include <string.h>
+#include <sys/mman.h>
+
+enum { LINE_BYTES = 16384, MOST_WORDS = 2000, MOST_NUMBERS = 5, STACK = 1 << 20, PAINT = 0xa5 };
+
+static char line[LINE_BYTES];
+static uint32_t words[MOST_WORDS];
+static uint32_t space[AUCTION_OPENING_WORDS + 1000];
+static uint64_t numbers[MOST_NUMBERS];
+
+/* A number that a parameter of 32 bits cannot hold is handed on as the largest that it can: that is no price, code or side
+ * either. */
+static uint32_t narrow(uint64_t number) {
+    return number > UINT32_MAX ? UINT32_MAX : (uint32_t)number;
+}
+
+/* Whether the call answers; its refusal is printed here. */
+static int answers(uint32_t refusal, size_t order) {
+    if (refusal != 0) {
+        printf("refused %" PRIu32 " %zu\n", refusal, order);
+    }
+    return refusal == 0;
+}
+
+static void print_sheet(struct auction_sheet reply) {
+    if (answers(reply.refusal, reply.order)) {
+        puts("accepted");
+    }
+}
+
+static void print_price(struct auction_price reply) {
+    if (answers(reply.refusal, reply.order)) {
+        printf("%" PRIu32 "\n", reply.price);
+    }
+}
+
+static void print_curves(struct auction_curves reply) {
+    if (answers(reply.refusal, reply.order)) {
+        printf("%" PRIu64 " %" PRIu64 " %" PRIu64 "\n", reply.demand, reply.supply, reply.volume);
+    }
+}
+
+static void print_space(struct auction_space reply) {
+    if (!answers(reply.refusal, reply.order)) {
+        return;
+    }
+    for (size_t i = 0; i < reply.count; i++) {
+        printf("%08" PRIx32 "%c", space[i], i + 1 < reply.count ? ' ' : '\n');
+    }
+}
+
+static void print_band(struct auction_band reply) {
+    if (answers(reply.refusal, reply.order)) {
+        printf("%" PRIu32 " %" PRIu32 "\n", reply.lower, reply.upper);
+    }
+}
+
+/* The next `most` fields of the line as decimal numbers; how many there were. */
+static size_t read_numbers(size_t most) {
+    size_t count = 0;
+    for (char *field; count < most && (field = strtok(NULL, " \n")); count++) {
+        numbers[count] = strtoull(field, NULL, 10);
+    }
+    return count;
+}
+
+/* The other fields of the line, as the words of a sheet; how many there are. */
+static size_t read_words(void) {
+    size_t count = 0;
+    for (char *field; count < MOST_WORDS && (field = strtok(NULL, " \n")); count++) {
+        words[count] = narrow(strtoul(field, NULL, 16));
+    }
+    return count;
+}
+
+/* The words of the space that a line lends, no more than there are. */
+static size_t room(void) {
+    size_t whole = sizeof space / sizeof *space;
+    return numbers[0] < whole ? (size_t)numbers[0] : whole;
+}
+
+static int answer_on_sheet(const char *call) {
+    if (strcmp(call, "check") == 0) {
+        print_sheet(auction_check(words, read_words()));
+        return 1;
+    }
+    read_numbers(1);
+    size_t count = read_words();
+    if (strcmp(call, "stepper") == 0) {
+        print_price(auction_stepper_limit(words, count, (size_t)numbers[0]));
+    } else if (strcmp(call, "curves") == 0) {
+        print_curves(auction_curves_at(words, count, narrow(numbers[0])));
+    } else if (strcmp(call, "round") == 0) {
+        print_space(auction_first_round(words, count, space, room()));
+    } else if (strcmp(call, "opening") == 0) {
+        print_space(auction_opening(words, count, space, room()));
+    } else {
+        return 0;
+    }
+    return 1;
+}
+
+static int answer_on_band(const char *call) {
+    if (strcmp(call, "indicative") == 0 && read_numbers(5) == 5) {
+        print_price(auction_indicative_price(narrow(numbers[0]), narrow(numbers[1]), numbers[2], narrow(numbers[3]),
+                                             narrow(numbers[4])));
+    } else if (strcmp(call, "next") == 0 && read_numbers(2) == 2) {
+        print_band(auction_next_band(narrow(numbers[0]), narrow(numbers[1])));
+    } else if (strcmp(call, "widen") == 0 && read_numbers(3) == 3) {
+        print_band(auction_widened_band(narrow(numbers[0]), narrow(numbers[1]), narrow(numbers[2])));
+    } else {
+        return 0;
+    }
+    return 1;
+}
+
+static void *answer_all(void *nothing) {
+    while (fgets(line, LINE_BYTES, stdin)) {
+        const char *call = strtok(line, " \n");
+        if (call && !answer_on_band(call) && !answer_on_sheet(call)) {
+            puts("unreadable");
+        }
+    }
+    return nothing;
+}
+
+/* Answers the lines on a stack that was painted before, and looks how far down the paint is gone. */
+int main(void) {
+    unsigned char *stack = mmap(NULL, STACK, PROT_READ | PROT_WRITE, MAP_PRIVATE | MAP_ANONYMOUS, -1, 0);
+    pthread_attr_t attributes;
+    pthread_t thread;
+    if (stack == MAP_FAILED || pthread_attr_init(&attributes) || pthread_attr_setstack(&attributes, stack, STACK)) {
+        perror("stack");
+        return 2;
+    }
+    memset(stack, PAINT, STACK);
+    if (pthread_create(&thread, &attributes, answer_all, NULL) || pthread_join(thread, NULL)) {
+        perror("thread");
+        return 2;
+    }
+    size_t kept = 0;
+    while (kept < STACK && stack[kept] == PAINT) {
+        kept++;
+    }
+    fprintf(stderr, "stack: %zu bytes, with those of the program\n", STACK - kept);
+    return STACK - kept > AUCTION_STACK_BYTES;
+}

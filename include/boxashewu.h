@@ -1,0 +1,158 @@
+/* Opening call auctions: the calls of Boxashewu for programs in C, C++ and, by boxashewu.rs beside this file, Rust.
+ *
+ * The static library is libboxashewu.a, for x86-64 Linux. In the project's folder, with Rattle's command rt, it is built
+ * and linked by
+ *
+ *     rt staticlib boxashewu
+ *     cc -Wall -Wextra -Wconversion -Wsign-conversion -Werror -Iinclude program.c target/staticlib/libboxashewu.a
+ *
+ * Of every call it is proved that it ends and answers what the rules say, for every list of words and all numbers: the
+ * promises are in crates/boxashewu/src/lib.rt, the calls one by one in docs/CALLS.md, the rules in docs/RULES.md, and what
+ * its terms mean in docs/READING.md.
+ *
+ * Numbers. A price counts steps of ten hellers; the grid is the prices from 1 to 1,000,000. A band is two prices of the
+ * grid, the lower bound D below the upper bound H. An order has a quantity of 1 to 1,000,000 pieces; orders are numbered
+ * from 0, as they stand on the sheet.
+ *
+ * Words. A word is 32 bits: its kind in the upper 4, its value in the lower 28. A sheet is 5 + 3n words, for n orders from
+ * none to 120. A result is the words of its rounds one after the other, 4 + n each, and a last word.
+ *
+ *     sheet   kind 1    D
+ *                  2    H
+ *                  3    last purchase price, in the band or not
+ *                  4    I, the indicative price, strictly between D and H
+ *                  5    n
+ *     order   kind 6    a buy, or 7 a sell: the lower 24 bits its limit, in the band or not, or 0 for none; the 4 bits
+ *                       above them its disposition: 0 basic, 1 all-or-none, 2 Stepper, which always has a limit
+ *                  8    its quantity
+ *                  9    the pieces of rivals that a Stepper ignores, at most 1,000,000; 0 for all others
+ *     round   kind 10   situation: 0 where demand and supply meet at some price; where they do not, by what the band has:
+ *                       1 supply alone, 2 demand alone, 3 both, 4 neither
+ *                  11   auction price, in the band or not
+ *                  12   purchase price, at which the fills of this round trade; 0 if nothing trades
+ *                  13   total of this round, bought and sold alike
+ *                  14   for each order its fill in this round
+ *     last    kind 15   65,536 times the ending, plus the number of rounds, those without a trade too. Ending 0: no price
+ *                       carried pieces any more (situations 1 to 4); 1: blocked, as all-or-none orders let nothing trade;
+ *                       2: the auction price was outside the band, and waiting begins
+ *
+ * Answers. Every record begins with `refusal`: 0 where the call answers, else the number of the refusal, and then all that
+ * the call would give is 0. For refusals 5 to 8 `order` is the number of the order at fault; else it is 0 and means nothing.
+ *
+ *      1  a sheet of fewer than 5 words
+ *      2  a word of a wrong kind in the heading, the first 5 words
+ *      3  a price of the heading that is off the grid, or I not strictly between D and H
+ *      4  more than 120 orders, or not 5 + 3n words
+ *      5  a word of a wrong kind in an order
+ *      6  a disposition above 2, a limit off the grid, a Stepper without limit
+ *      7  a quantity of 0 or above 1,000,000
+ *      8  an ignored quantity above 1,000,000, or not 0 in an order that is no Stepper
+ *      9  an argument that is not allowed
+ *     10  too few words in the lent space
+ *     11  a band that cannot be had
+ *
+ * The first fault is the answer. They are judged in this order: of the heading 1 to 4, each over all its words before the
+ * next; then of each order in turn 5 to 8, likewise; then 9; last 10 or 11, of which no call has both. (12 is of the opening
+ * program alone, for bytes that are no list of words.)
+ *
+ * What a caller owes. No call can check these, and if one of them fails, nothing is promised:
+ *
+ * - `words` points to `count` words and `space` to `room` words. Both are aligned to 4 bytes and never null; for a list of
+ *   no words any such pointer will do.
+ * - `words` and `space` do not overlap.
+ * - While a call runs no other thread writes `words`, and none reads or writes `space`. Apart from that calls may run in
+ *   any number of threads at once: the library keeps nothing between two calls.
+ * - There are AUCTION_STACK_BYTES of stack left for the call.
+ * - Numbers arrive as they were meant: C and C++ turn one that is too wide or negative into another without a word. Compile
+ *   with -Wconversion and -Wsign-conversion, and refuse what does not fit: an order number or a price beyond its type is
+ *   one that there is not.
+ *
+ * The library takes no memory from the system and reads and writes nothing but what it is lent. Of the C library it
+ * needs memcpy and memset. Between the numbers of a record are bytes of no meaning: compare records number by number. */
+#ifndef BOXASHEWU_H
+#define BOXASHEWU_H
+
+#include <stddef.h>
+#include <stdint.h>
+
+#ifdef __cplusplus
+extern "C" {
+#endif
+
+/* Words that are always enough, as they are those for 120 orders. With n orders a sheet has 5 + 3n words, a first round asks
+ * for a space of 4 + n, and an opening for one of (n + 1) x (n + 4) + 1, even where it then writes fewer. */
+#define AUCTION_SHEET_WORDS 365
+#define AUCTION_ROUND_WORDS 124
+#define AUCTION_OPENING_WORDS 15005
+
+/* What a call may take of the stack. An opening was measured to take a third of it. */
+#define AUCTION_STACK_BYTES 65536
+
+struct auction_sheet {
+    uint32_t refusal;
+    size_t order;
+};
+
+struct auction_price {
+    uint32_t refusal;
+    size_t order;
+    uint32_t price;
+};
+
+struct auction_curves {
+    uint32_t refusal;
+    size_t order;
+    uint64_t demand;
+    uint64_t supply;
+    uint64_t volume;
+};
+
+struct auction_space {
+    uint32_t refusal;
+    size_t order;
+    size_t count;
+};
+
+struct auction_band {
+    uint32_t refusal;
+    size_t order;
+    uint32_t lower;
+    uint32_t upper;
+};
+
+/* Checks a sheet. Refusals 1 to 8. */
+struct auction_sheet auction_check(const uint32_t *words, size_t count);
+
+/* In the first round: the limit in force of an order that is a Stepper, by its number. Refusals 1 to 8; 9 if there is no
+ * such order, or it is no Stepper. */
+struct auction_price auction_stepper_limit(const uint32_t *words, size_t count, size_t order);
+
+/* In the first round: demand, supply and volume at a price. Refusals 1 to 8; 9 if the price is off the grid. */
+struct auction_curves auction_curves_at(const uint32_t *words, size_t count, uint32_t price);
+
+/* The first round alone, without a last word, and the whole opening. The words of the result are written from the start of
+ * `space`, and the record counts them; all other words of the space, and after a refusal all of them, keep what they held.
+ * Refusals 1 to 8; 10 if `room` is less than the words asked for. */
+struct auction_space auction_first_round(const uint32_t *words, size_t count, uint32_t *space, size_t room);
+struct auction_space auction_opening(const uint32_t *words, size_t count, uint32_t *space, size_t room);
+
+/* The indicative price. If any pieces were traded it is the closing purchase price as it is; else the last auction price,
+ * moved to the nearer bound if it is outside the band. 9 if the bounds are no band, or the price that is used is off the grid
+ * before it is moved; the other price may be any number. */
+struct auction_price auction_indicative_price(uint32_t lower, uint32_t upper, uint64_t traded, uint32_t closing,
+                                              uint32_t auction);
+
+/* The next band around an indicative price: 20 percent to each side for shares (code 0), 25 for certificates (code 1),
+ * rounded towards the price but always off it. 9 for another code or a price off the grid; 11 for a price of 1, or an upper
+ * bound that would be off the grid. */
+struct auction_band auction_next_band(uint32_t code, uint32_t indicative);
+
+/* The band after waiting: the upper bound (side 0) or the lower (side 1) moved out by a tenth of itself, rounded towards
+ * where it was, so that a bound below 10 does not move; the other stays. 9 for another side, or if the bounds are no band;
+ * 11 if the upper bound would be off the grid. */
+struct auction_band auction_widened_band(uint32_t lower, uint32_t upper, uint32_t side);
+
+#ifdef __cplusplus
+}
+#endif
+#endif

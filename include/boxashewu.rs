@@ -1,0 +1,223 @@
+//! Opening call auctions: the calls of Boxashewu for programs in Rust. The words of a sheet and of a result, and the refusals, are
+//! in boxashewu.h beside this file. A program takes this file as a module and links libboxashewu.a:
+//!
+//! ```text
+//! rt staticlib boxashewu
+//! rustc -O -L target/staticlib program.rs
+//! ```
+//!
+//! With cargo a build script prints `cargo:rustc-link-search=native=` and the folder.
+//!
+//! Slices and borrows meet what the header asks of pointers. What is left to the caller: that a call has STACK_BYTES of stack (one
+//! that runs out of it ends the program at the guard page), and that no number was cut down by `as` on its way here.
+
+#![allow(dead_code)]
+
+use std::fmt;
+
+/// Words that are always enough, as they are those for 120 orders. With n orders a sheet has 5 + 3n words, a first round asks for a
+/// space of 4 + n, and an opening for one of (n + 1) × (n + 4) + 1, even where it then writes fewer.
+pub const SHEET_WORDS: usize = 365;
+pub const ROUND_WORDS: usize = 124;
+pub const OPENING_WORDS: usize = 15005;
+
+/// What a call may take of the stack. An opening was measured to take a third of it.
+pub const STACK_BYTES: usize = 65536;
+
+/// Which fault it is, 1 to 11, and for 5 to 8 the order at fault, counted from 0.
+#[derive(Clone, Copy, Debug, PartialEq, Eq)]
+pub struct Refusal {
+    pub number: u32,
+    pub order: Option<usize>,
+}
+
+impl fmt::Display for Refusal {
+    /// As the programs print it.
+    fn fmt(&self, out: &mut fmt::Formatter) -> fmt::Result {
+        write!(out, "refused {} {}", self.number, self.order.unwrap_or(0))
+    }
+}
+
+impl std::error::Error for Refusal {}
+
+#[derive(Clone, Copy, Debug, PartialEq, Eq)]
+pub struct Curves {
+    pub demand: u64,
+    pub supply: u64,
+    pub volume: u64,
+}
+
+#[derive(Clone, Copy, Debug, PartialEq, Eq)]
+pub struct Band {
+    pub lower: u32,
+    pub upper: u32,
+}
+
+/// The records and functions as the library has them.
+pub mod raw {
+    #[repr(C)]
+    #[derive(Clone, Copy, Debug, PartialEq, Eq)]
+    pub struct SheetReply {
+        pub refusal: u32,
+        pub order: usize,
+    }
+
+    #[repr(C)]
+    #[derive(Clone, Copy, Debug, PartialEq, Eq)]
+    pub struct PriceReply {
+        pub refusal: u32,
+        pub order: usize,
+        pub price: u32,
+    }
+
+    #[repr(C)]
+    #[derive(Clone, Copy, Debug, PartialEq, Eq)]
+    pub struct CurvesReply {
+        pub refusal: u32,
+        pub order: usize,
+        pub demand: u64,
+        pub supply: u64,
+        pub volume: u64,
+    }
+
+    #[repr(C)]
+    #[derive(Clone, Copy, Debug, PartialEq, Eq)]
+    pub struct SpaceReply {
+        pub refusal: u32,
+        pub order: usize,
+        pub count: usize,
+    }
+
+    #[repr(C)]
+    #[derive(Clone, Copy, Debug, PartialEq, Eq)]
+    pub struct BandReply {
+        pub refusal: u32,
+        pub order: usize,
+        pub lower: u32,
+        pub upper: u32,
+    }
+
+    #[link(name = "boxashewu", kind = "static")]
+    unsafe extern "C" {
+        pub fn auction_check(words: *const u32, count: usize) -> SheetReply;
+        pub fn auction_stepper_limit(words: *const u32, count: usize, order: usize) -> PriceReply;
+        pub fn auction_curves_at(words: *const u32, count: usize, price: u32) -> CurvesReply;
+        pub fn auction_first_round(
+            words: *const u32,
+            count: usize,
+            space: *mut u32,
+            room: usize,
+        ) -> SpaceReply;
+        pub fn auction_opening(
+            words: *const u32,
+            count: usize,
+            space: *mut u32,
+            room: usize,
+        ) -> SpaceReply;
+        pub fn auction_indicative_price(
+            lower: u32,
+            upper: u32,
+            traded: u64,
+            closing: u32,
+            auction: u32,
+        ) -> PriceReply;
+        pub fn auction_next_band(code: u32, indicative: u32) -> BandReply;
+        pub fn auction_widened_band(lower: u32, upper: u32, side: u32) -> BandReply;
+    }
+}
+
+fn answered<T>(refusal: u32, order: usize, value: T) -> Result<T, Refusal> {
+    match refusal {
+        0 => Ok(value),
+        number => Err(Refusal {
+            number,
+            order: (5..=8).contains(&number).then_some(order),
+        }),
+    }
+}
+
+// Each unsafe line below is sound: a slice is what the library asks of a pointer and a count, a space lent as `&mut` overlaps
+// nothing and is seen by nobody else, and the library's functions touch every page of the stack that they take, one after the
+// other, so that too small a stack is met at its guard page.
+
+/// Whether a sheet is accepted. Refusals 1 to 8.
+pub fn check(words: &[u32]) -> Result<(), Refusal> {
+    let reply = unsafe { raw::auction_check(words.as_ptr(), words.len()) };
+    answered(reply.refusal, reply.order, ())
+}
+
+/// The limit in force, in the first round, of an order that is a Stepper. Refusals 1 to 8; 9 if there is no such order, or it is no
+/// Stepper.
+pub fn stepper_limit(words: &[u32], order: usize) -> Result<u32, Refusal> {
+    let reply = unsafe { raw::auction_stepper_limit(words.as_ptr(), words.len(), order) };
+    answered(reply.refusal, reply.order, reply.price)
+}
+
+/// Demand, supply and volume at a price in the first round. Refusals 1 to 8; 9 if the price is off the grid.
+pub fn curves_at(words: &[u32], price: u32) -> Result<Curves, Refusal> {
+    let reply = unsafe { raw::auction_curves_at(words.as_ptr(), words.len(), price) };
+    let curves = Curves {
+        demand: reply.demand,
+        supply: reply.supply,
+        volume: reply.volume,
+    };
+    answered(reply.refusal, reply.order, curves)
+}
+
+/// The words of the first round, which now stand at the start of the space; its other words keep what they held, and all of them
+/// where the call refuses. Refusals 1 to 8; 10 if the space has fewer than 4 + n words.
+pub fn first_round<'a>(words: &[u32], space: &'a mut [u32]) -> Result<&'a [u32], Refusal> {
+    let reply = unsafe {
+        raw::auction_first_round(words.as_ptr(), words.len(), space.as_mut_ptr(), space.len())
+    };
+    answered(reply.refusal, reply.order, &space[..reply.count])
+}
+
+/// The words of the opening, likewise. Refusals 1 to 8; 10 if the space has fewer than (n + 1) × (n + 4) + 1 words.
+pub fn opening<'a>(words: &[u32], space: &'a mut [u32]) -> Result<&'a [u32], Refusal> {
+    let reply = unsafe {
+        raw::auction_opening(words.as_ptr(), words.len(), space.as_mut_ptr(), space.len())
+    };
+    answered(reply.refusal, reply.order, &space[..reply.count])
+}
+
+/// The closing purchase price as it is if any pieces were traded, else the last auction price moved into the band. 9 if the bounds
+/// are no band, or the price that is used is off the grid.
+pub fn indicative_price(
+    lower: u32,
+    upper: u32,
+    traded: u64,
+    closing: u32,
+    auction: u32,
+) -> Result<u32, Refusal> {
+    let reply = unsafe { raw::auction_indicative_price(lower, upper, traded, closing, auction) };
+    answered(reply.refusal, reply.order, reply.price)
+}
+
+/// The next band of shares (code 0) or certificates (code 1). 9 for another code or a price off the grid; 11 for a price of 1, or an
+/// upper bound that would be off the grid.
+pub fn next_band(code: u32, indicative: u32) -> Result<Band, Refusal> {
+    let reply = unsafe { raw::auction_next_band(code, indicative) };
+    answered(
+        reply.refusal,
+        reply.order,
+        Band {
+            lower: reply.lower,
+            upper: reply.upper,
+        },
+    )
+}
+
+/// The band with its upper bound (side 0) or its lower (side 1) a tenth further out; a bound below 10 does not move. 9 for another
+/// side, or if the bounds are no band; 11 if the upper bound would be off the grid.
+pub fn widened_band(lower: u32, upper: u32, side: u32) -> Result<Band, Refusal> {
+    let reply = unsafe { raw::auction_widened_band(lower, upper, side) };
+    answered(
+        reply.refusal,
+        reply.order,
+        Band {
+            lower: reply.lower,
+            upper: reply.upper,
+        },
+    )
+}

@@ -1,0 +1,130 @@
+//! Random arguments of the calls: sheets of real sizes, and the numbers beside them, some of them not allowed.
+
+use crate::random::Random;
+use crate::shapes::{random_sheet, sheet_by_lot, Sizes, LOTS, SLOW_LOTS};
+use crate::sheet::{Grid, Sheet, LAST_PRICE, MOST_ORDERS, MOST_PIECES};
+
+/// Up to 120 orders and a million pieces.
+fn large_sizes(random: &mut Random) -> Sizes {
+    let most = MOST_ORDERS as u64;
+    let orders = match random.below(4) {
+        0 => random.between(0, 6),
+        1 => random.between(most - 3, most),
+        _ => random.between(0, most),
+    };
+    Sizes {
+        grid: Grid::DOCUMENT,
+        orders,
+        pieces: random.pick(&[5, 100, 10_000, u64::from(MOST_PIECES)]),
+    }
+}
+
+pub fn large_sheet(random: &mut Random) -> Sheet {
+    let sizes = large_sizes(random);
+    random_sheet(random, sizes)
+}
+
+/// The same with most of the slow lots drawn again, for comparisons of millions of sheets.
+pub fn quick_sheet(random: &mut Random) -> Sheet {
+    let sizes = large_sizes(random);
+    let mut lot = random.below(LOTS);
+    while SLOW_LOTS.contains(&lot) && !random.one_in(16) {
+        lot = random.below(LOTS);
+    }
+    sheet_by_lot(random, sizes, lot)
+}
+
+/// A Stepper if the sheet has one; else, or if bad, any number near the orders' or large.
+pub fn order_for(random: &mut Random, sheet: &Sheet, bad: bool) -> u64 {
+    let n = sheet.orders.len();
+    let steppers: Vec<u64> = (0..n)
+        .filter(|k| sheet.orders[*k].is_stepper())
+        .map(|k| k as u64)
+        .collect();
+    if bad || steppers.is_empty() {
+        let n = n as u64;
+        return random.pick(&[0, n / 2, n.max(1) - 1, n, n + 1, 1 << 32, u64::MAX]);
+    }
+    random.pick(&steppers)
+}
+
+/// A price where demand or supply may change, or any; if bad, one off the grid.
+pub fn price_for(random: &mut Random, sheet: &Sheet, bad: bool) -> u64 {
+    let last = u64::from(LAST_PRICE);
+    if bad {
+        return random.pick(&[0, last + 1, (1 << 32) + 1, u64::MAX]);
+    }
+    let mut prices = vec![1, last, sheet.lower.0.into(), sheet.upper.0.into()];
+    prices.push(random.between(1, last));
+    for order in &sheet.orders {
+        let limit = u64::from(order.words()[0] & 0x00ff_ffff);
+        prices.extend([limit, limit + 1, limit.max(1) - 1]);
+    }
+    random.pick(&prices).clamp(1, last)
+}
+
+/// The space needed or more; if bad, too few words, most often by one.
+pub fn space_for(random: &mut Random, needed: u64, bad: bool) -> u64 {
+    if bad {
+        return random.pick(&[needed - 1, needed - 1, needed - 1, needed / 2, 0]);
+    }
+    random.pick(&[needed, needed, needed + 1, needed + 1_000])
+}
+
+/// What the call for the indicative price is asked.
+pub struct Indicative {
+    pub band: (u64, u64),
+    pub traded: u64,
+    pub closing: u64,
+    pub auction: u64,
+}
+
+pub fn indicative(random: &mut Random) -> Indicative {
+    let band = band_bounds(random);
+    let traded = random.pick(&[0, 0, 0, 1, 5_000_000, 1 << 32, u64::MAX]);
+    let (closing, auction) = (band_price(random), band_price(random));
+    Indicative {
+        band,
+        traded,
+        closing,
+        auction,
+    }
+}
+
+/// The code and the indicative price of a next band.
+pub fn next(random: &mut Random) -> (u64, u64) {
+    let code = random.pick(&[0, 1, 0, 1, 0, 1, 0, 1, 2, u64::MAX]);
+    (code, band_price(random))
+}
+
+/// The band and the side of a widening.
+pub fn widening(random: &mut Random) -> ((u64, u64), u64) {
+    let band = band_bounds(random);
+    let side = random.pick(&[0, 1, 0, 1, 0, 1, 0, 1, 2, 1_u64 << 32]);
+    (band, side)
+}
+
+/// Most often D below H.
+fn band_bounds(random: &mut Random) -> (u64, u64) {
+    let (one, other) = (band_price(random), band_price(random));
+    match random.below(16) {
+        0 => (one, other),
+        1 => (one, one),
+        _ => (one.min(other), one.max(other)),
+    }
+}
+
+/// Prices at which the band's rules turn, small ones, any, and some off the grid.
+fn band_price(random: &mut Random) -> u64 {
+    let last = u64::from(LAST_PRICE);
+    match random.below(30) {
+        0 => random.pick(&[0, last + 1, 1 << 28, (1 << 32) + 7, u64::MAX]),
+        1..=4 => random.between(1, 12),
+        5 | 6 => random.between(833_330, 833_340),
+        7 | 8 => random.between(799_996, 800_004),
+        9 | 10 => random.between(909_086, 909_096),
+        11 => random.between(last - 10, last),
+        12 | 13 => random.between(80, 120),
+        _ => random.between(1, last),
+    }
+}

@@ -1,0 +1,19 @@
+//! A second implementation of the opening auction of document 01, to compare with: a literal way and a fast one, and random
+//! sheets and arguments.
+
+pub mod agree;
+pub mod answer;
+pub mod arguments;
+pub mod band;
+pub mod calls;
+#[cfg(test)]
+mod cases;
+pub mod chains;
+pub mod damage;
+pub mod fast;
+pub mod lines;
+pub mod literal;
+pub mod random;
+pub mod refusal;
+pub mod shapes;
+pub mod sheet;

@@ -1,0 +1,162 @@
+//! compare COUNT SEED [FIRST]: compares the library with the reference implementation on the cases FIRST, FIRST + 1, .. of a seed,
+//! on all processors at once, and stops at the first that differs.
+
+use std::panic::{catch_unwind, AssertUnwindSafe};
+use std::process::ExitCode;
+use std::sync::atomic::{AtomicU64, Ordering};
+use std::sync::Mutex;
+use std::thread::{available_parallelism, scope, sleep, Scope};
+use std::time::{Duration, Instant};
+use trials::case::Case;
+use trials::compare::{compare, Difference};
+use trials::lent::Lent;
+use trials::tally::Tally;
+
+/// Cases that a thread takes at a time.
+const BLOCK: u64 = 4096;
+
+/// Words of the largest space that is lent: an opening's of 120 orders, and 1,000 more.
+const MOST_SPACE: usize = 16_005;
+
+struct Run {
+    seed: u64,
+    first: u64,
+    end: u64,
+    /// The next case that no thread has taken, and how many are done.
+    next: AtomicU64,
+    done: AtomicU64,
+    /// The lowest case that differs.
+    found: Mutex<Option<(u64, Difference)>>,
+    tally: Mutex<Tally>,
+}
+
+impl Run {
+    /// Whether the cases from this one on are still worth comparing.
+    fn wanted(&self, case: u64) -> bool {
+        let found = self.found.lock().expect("no thread panics");
+        found.as_ref().is_none_or(|(lowest, _)| case < *lowest)
+    }
+
+    fn note(&self, case: u64, difference: Difference) {
+        if self.wanted(case) {
+            *self.found.lock().expect("no thread panics") = Some((case, difference));
+        }
+    }
+
+    /// Takes blocks of cases until there are no more, or a lower one differs.
+    fn work(&self) {
+        let (mut lent, mut tally) = (Lent::new(MOST_SPACE), Tally::default());
+        loop {
+            let start = self.next.fetch_add(BLOCK, Ordering::Relaxed);
+            if start >= self.end || !self.wanted(start) {
+                break;
+            }
+            let end = (start + BLOCK).min(self.end);
+            if let Some((case, difference)) = self.block(start..end, &mut lent, &mut tally) {
+                self.note(case, difference);
+            }
+            self.done.fetch_add(end - start, Ordering::Relaxed);
+        }
+        self.tally.lock().expect("no thread panics").join(&tally);
+    }
+
+    /// The first case of a block that differs. A panic of the reference implementation is a difference too.
+    fn block(
+        &self,
+        mut cases: std::ops::Range<u64>,
+        lent: &mut Lent,
+        tally: &mut Tally,
+    ) -> Option<(u64, Difference)> {
+        cases.find_map(|number| {
+            let case = Case::drawn(self.seed, number);
+            let compared = catch_unwind(AssertUnwindSafe(|| compare(&case, lent, tally)));
+            match compared {
+                Ok(Ok(())) => None,
+                Ok(Err(difference)) => Some((number, difference)),
+                Err(_) => Some((number, panicked(&case))),
+            }
+        })
+    }
+
+    fn progress(&self, since: Instant) {
+        let (done, count) = (self.done.load(Ordering::Relaxed), self.end - self.first);
+        eprint!(
+            "\r{done} of {count} sheets, {} s ",
+            since.elapsed().as_secs()
+        );
+    }
+}
+
+fn panicked(case: &Case) -> Difference {
+    let words = reference::answer::hexadecimal(&case.words, " ");
+    Difference {
+        line: format!("opening {} {words}", case.opening_space),
+        what: "the reference implementation gave up".to_string(),
+    }
+}
+
+/// Shows how far it is until every thread has ended.
+fn watch<'scope>(run: &'scope Run, threads: &'scope Scope<'scope, '_>) {
+    let since = Instant::now();
+    let count = available_parallelism().map_or(1, usize::from);
+    let workers: Vec<_> = (0..count).map(|_| threads.spawn(|| run.work())).collect();
+    let mut shown = Instant::now();
+    while workers.iter().any(|worker| !worker.is_finished()) {
+        sleep(Duration::from_millis(20));
+        if shown.elapsed() >= Duration::from_secs(2) {
+            run.progress(since);
+            shown = Instant::now();
+        }
+    }
+    run.progress(since);
+    eprintln!();
+}
+
+fn compared(count: u64, seed: u64, first: u64) -> bool {
+    let run = Run {
+        seed,
+        first,
+        end: first + count,
+        next: AtomicU64::new(first),
+        done: AtomicU64::new(0),
+        found: Mutex::new(None),
+        tally: Mutex::new(Tally::default()),
+    };
+    scope(|threads| watch(&run, threads));
+    let found = run.found.into_inner().expect("no thread panics");
+    if let Some((case, difference)) = &found {
+        println!("case {case} of seed {seed} differs:");
+        println!("{}", difference.what);
+        println!(
+            "the call, as a line of the program `calls`\n  {}",
+            difference.line
+        );
+        println!("again with\n  trials/compare 1 {seed} {case}");
+        return false;
+    }
+    run.tally.into_inner().expect("no thread panics").print();
+    println!("seed {seed}: no difference");
+    true
+}
+
+/// COUNT SEED [FIRST], all numbers.
+fn asked() -> Option<(u64, u64, u64)> {
+    let arguments: Vec<String> = std::env::args().skip(1).collect();
+    let numbers: Option<Vec<u64>> = arguments.iter().map(|text| text.parse().ok()).collect();
+    match numbers?.as_slice() {
+        [count, seed] => Some((*count, *seed, 0)),
+        [count, seed, first] => Some((*count, *seed, *first)),
+        _ => None,
+    }
+}
+
+fn main() -> ExitCode {
+    let Some((count, seed, first)) = asked() else {
+        eprintln!("compare COUNT SEED [FIRST]");
+        return ExitCode::from(2);
+    };
+    match compared(count, seed, first) {
+        true => ExitCode::SUCCESS,
+        false => ExitCode::from(1),
+    }
+}

@@ -1,0 +1,54 @@
+//! A case of the comparison: a sheet, as it was drawn or damaged, and arguments for every call. Each is drawn from a seed and
+//! its own number alone, so that it can be had again without the others.
+
+use reference::answer::{space_of_opening, space_of_round};
+use reference::arguments::{
+    indicative, next, order_for, price_for, quick_sheet, space_for, widening, Indicative,
+};
+use reference::damage::damage;
+use reference::random::Random;
+
+/// What the calls of one case are asked. Numbers are of 64 bits, as the reference implementation takes them.
+pub struct Case {
+    pub words: Vec<u32>,
+    pub order: u64,
+    pub price: u64,
+    pub round_space: u64,
+    pub opening_space: u64,
+    pub indicative: Indicative,
+    pub next: (u64, u64),
+    pub widening: ((u64, u64), u64),
+}
+
+/// In sixteen cases, so many have a damaged sheet, and so many arguments that are most likely refused.
+const DAMAGED: u64 = 1;
+const BAD_ARGUMENTS: u64 = 1;
+
+impl Case {
+    pub fn drawn(seed: u64, number: u64) -> Case {
+        let mixed = Random::new(seed.wrapping_add(number)).next();
+        let random = &mut Random::new(mixed ^ seed.rotate_left(32));
+        let sheet = quick_sheet(random);
+        let n = sheet.orders.len();
+        let mut words = sheet.words();
+        if random.below(16) < DAMAGED {
+            damage(random, &mut words);
+        }
+        let bad = random.below(16) < BAD_ARGUMENTS;
+        Case {
+            words,
+            order: order_for(random, &sheet, bad),
+            price: price_for(random, &sheet, bad),
+            round_space: space_for(random, space_of_round(n), bad),
+            opening_space: space_for(random, space_of_opening(n), bad),
+            indicative: indicative(random),
+            next: next(random),
+            widening: widening(random),
+        }
+    }
+}
+
+/// A number for a parameter of 32 bits: one that it cannot hold becomes the largest, which is no price, code or side either.
+pub fn narrow(number: u64) -> u32 {
+    u32::try_from(number).unwrap_or(u32::MAX)
+}

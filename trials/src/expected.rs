@@ -1,0 +1,85 @@
+//! What the reference implementation answers, as the records of the library.
+
+use crate::boxashewu::raw;
+use reference::band::{indicative_price, next_band, widening};
+use reference::fast::opening::{curves, limit_of_stepper};
+use reference::refusal::Refusal;
+use reference::sheet::{Grid, Price, Sheet};
+
+type Read<'a> = Result<&'a Sheet, Refusal>;
+
+const GRID: Grid = Grid::DOCUMENT;
+
+/// The two numbers of a refusal; 0 and 0 for an answer.
+fn fault<T>(answer: &Result<T, Refusal>) -> (u32, usize) {
+    match answer {
+        Ok(_) => (0, 0),
+        Err(refusal) => (refusal.number, refusal.order),
+    }
+}
+
+pub fn sheet(read: Read) -> raw::SheetReply {
+    let (refusal, order) = fault(&read);
+    raw::SheetReply { refusal, order }
+}
+
+fn price(answer: Result<Price, Refusal>) -> raw::PriceReply {
+    let (refusal, order) = fault(&answer);
+    let price = answer.map_or(0, |price| price.0);
+    raw::PriceReply {
+        refusal,
+        order,
+        price,
+    }
+}
+
+pub fn stepper_limit(read: Read, k: u64) -> raw::PriceReply {
+    price(read.and_then(|sheet| limit_of_stepper(sheet, GRID, k)))
+}
+
+pub fn curves_at(read: Read, p: u64) -> raw::CurvesReply {
+    let answer = read.and_then(|sheet| curves(sheet, GRID, p));
+    let (refusal, order) = fault(&answer);
+    let [demand, supply, volume] = answer.unwrap_or([0; 3]);
+    raw::CurvesReply {
+        refusal,
+        order,
+        demand,
+        supply,
+        volume,
+    }
+}
+
+pub fn space(answer: &Result<Vec<u32>, Refusal>) -> raw::SpaceReply {
+    let (refusal, order) = fault(answer);
+    let count = answer.as_ref().map_or(0, Vec::len);
+    raw::SpaceReply {
+        refusal,
+        order,
+        count,
+    }
+}
+
+pub fn indicative(asked: &reference::arguments::Indicative) -> raw::PriceReply {
+    let answer = indicative_price(asked.band, asked.traded, asked.closing, asked.auction);
+    price(answer)
+}
+
+fn band(answer: Result<(Price, Price), Refusal>) -> raw::BandReply {
+    let (refusal, order) = fault(&answer);
+    let (lower, upper) = answer.map_or((0, 0), |(lower, upper)| (lower.0, upper.0));
+    raw::BandReply {
+        refusal,
+        order,
+        lower,
+        upper,
+    }
+}
+
+pub fn next((code, indicative): (u64, u64)) -> raw::BandReply {
+    band(next_band(code, indicative))
+}
+
+pub fn widened(((lower, upper), side): ((u64, u64), u64)) -> raw::BandReply {
+    band(widening(lower, upper, side))
+}
