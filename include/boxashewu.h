@@ -11,8 +11,8 @@
  * its terms mean in docs/READING.md.
  *
  * Numbers. A price counts steps of ten hellers; the grid is the prices from 1 to 1,000,000. A band is two prices of the
- * grid, the lower bound D below the upper bound H. An order has a quantity of 1 to 1,000,000 pieces; orders are numbered
- * from 0, as they stand on the sheet.
+ * grid, the lower bound D below the upper bound H, and both belong to it. An order has a quantity of 1 to 1,000,000 pieces;
+ * orders are numbered from 0, as they stand on the sheet.
  *
  * Words. A word is 32 bits: its kind in the upper 4, its value in the lower 28. A sheet is 5 + 3n words, for n orders from
  * none to 120. A result is the words of its rounds one after the other, 4 + n each, and a last word.
@@ -22,19 +22,25 @@
  *                  3    last purchase price, in the band or not
  *                  4    I, the indicative price, strictly between D and H
  *                  5    n
- *     order   kind 6    a buy, or 7 a sell: the lower 24 bits its limit, in the band or not, or 0 for none; the 4 bits
- *                       above them its disposition: 0 basic, 1 all-or-none, 2 Stepper, which always has a limit
+ *     order   kind 6    a buy, or 7 a sell: the lower 24 bits its limit, in the band or not, or 0 for none, which counts
+ *                       as H for a buy and D for a sell; the 4 bits above them its disposition: 0 basic, 1 all-or-none,
+ *                       2 Stepper, which always has a limit
  *                  8    its quantity
  *                  9    the pieces of rivals that a Stepper ignores, at most 1,000,000; 0 for all others
  *     round   kind 10   situation: 0 where demand and supply meet at some price; where they do not, by what the band has:
  *                       1 supply alone, 2 demand alone, 3 both, 4 neither
- *                  11   auction price, in the band or not
- *                  12   purchase price, at which the fills of this round trade; 0 if nothing trades
+ *                  11   auction price, in the band or not; in situations 1 to 4 it is one at which nothing trades
+ *                  12   purchase price, at which the fills of this round trade: the auction price, or the nearer bound
+ *                       where that is outside the band; 0 if nothing trades
  *                  13   total of this round, bought and sold alike
  *                  14   for each order its fill in this round
- *     last    kind 15   65,536 times the ending, plus the number of rounds, those without a trade too. Ending 0: no price
- *                       carried pieces any more (situations 1 to 4); 1: blocked, as all-or-none orders let nothing trade;
- *                       2: the auction price was outside the band, and waiting begins
+ *     last    kind 15   65,536 times the ending, plus the number of rounds, those without a trade too. Ending 0: the last
+ *                       round has situation 1 to 4. Ending 2: it has situation 0 and an auction price outside the band,
+ *                       whether pieces trade or not, and waiting begins. Ending 1: neither, and all-or-none orders let
+ *                       nothing trade
+ *
+ * A Stepper stands one step ahead of its rivals, the other orders of its side, as far as its own limit lets it: that is its
+ * limit in force.
  *
  * Answers. Every record begins with `refusal`: 0 where the call answers, else the number of the refusal, and then all that
  * the call would give is 0. For refusals 5 to 8 `order` is the number of the order at fault; else it is 0 and means nothing.
@@ -64,8 +70,7 @@
  *   any number of threads at once: the library keeps nothing between two calls.
  * - There are AUCTION_STACK_BYTES of stack left for the call.
  * - Numbers arrive as they were meant: C and C++ turn one that is too wide or negative into another without a word. Compile
- *   with -Wconversion and -Wsign-conversion, and refuse what does not fit: an order number or a price beyond its type is
- *   one that there is not.
+ *   with -Wconversion and -Wsign-conversion, and refuse a number that is too large for its parameter yourself.
  *
  * The library takes no memory from the system and reads and writes nothing but what it is lent. Of the C library it
  * needs memcpy and memset. Between the numbers of a record are bytes of no meaning: compare records number by number. */
@@ -85,7 +90,7 @@ extern "C" {
 #define AUCTION_ROUND_WORDS 124
 #define AUCTION_OPENING_WORDS 15005
 
-/* What a call may take of the stack. An opening was measured to take a third of it. */
+/* What a call may take of the stack. The most that was measured is a third of it. */
 #define AUCTION_STACK_BYTES 65536
 
 struct auction_sheet {

@@ -1,5 +1,6 @@
 //! Opening call auctions: the calls of Boxashewu for programs in Rust. The words of a sheet and of a result, and the refusals, are
-//! in boxashewu.h beside this file. A program takes this file as a module and links libboxashewu.a:
+//! in boxashewu.h beside this file. A program takes this file as a module, by `#[path = "include/boxashewu.rs"] mod boxashewu;`, and
+//! links libboxashewu.a (rustc 1.82 or newer, any edition):
 //!
 //! ```text
 //! rt staticlib boxashewu
@@ -21,7 +22,7 @@ pub const SHEET_WORDS: usize = 365;
 pub const ROUND_WORDS: usize = 124;
 pub const OPENING_WORDS: usize = 15005;
 
-/// What a call may take of the stack. An opening was measured to take a third of it.
+/// What a call may take of the stack. The most that was measured is a third of it.
 pub const STACK_BYTES: usize = 65536;
 
 /// Which fault it is, 1 to 11, and for 5 to 8 the order at fault, counted from 0.
@@ -32,7 +33,7 @@ pub struct Refusal {
 }
 
 impl fmt::Display for Refusal {
-    /// As the programs print it.
+    /// As the programs print it: the number, and the order or 0.
     fn fmt(&self, out: &mut fmt::Formatter) -> fmt::Result {
         write!(out, "refused {} {}", self.number, self.order.unwrap_or(0))
     }

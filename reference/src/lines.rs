@@ -91,7 +91,7 @@ fn sheet_line(random: &mut Random, kind: Kind) -> String {
 }
 
 /// The call, its number and the words, with single spaces.
-fn joined(call: &str, number: Option<u64>, words: &[u32]) -> String {
+pub fn joined(call: &str, number: Option<u64>, words: &[u32]) -> String {
     let mut line = call.to_string();
     if let Some(number) = number {
         line += &format!(" {number}");

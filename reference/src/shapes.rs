@@ -33,7 +33,7 @@ pub struct Mix {
     pub ignored: u64,
 }
 
-/// How many lots there are to draw a shape by, and those that come upon their sheet by many openings of others.
+/// How many lots there are to draw a shape by, and those whose sheets are searched for by many openings.
 pub const LOTS: u64 = 16;
 pub const SLOW_LOTS: [u64; 2] = [3, 4];
 

@@ -1,14 +1,15 @@
-//! One case: every call of the library beside the reference implementation.
+//! One case: every call of the library beside the reference implementation's fast way.
 
 use crate::boxashewu::raw;
 use crate::case::{narrow, Case};
 use crate::expected;
 use crate::lent::Lent;
-use crate::tally::Tally;
+use crate::tally::{Call, Tally};
 use reference::answer::{
     check_space, hexadecimal, space_of_opening, space_of_round, Opening, Round,
 };
 use reference::fast::opening::{first_round, opening};
+use reference::lines::joined;
 use reference::refusal::Refusal;
 use reference::sheet::{read, Grid, Sheet};
 use std::fmt::Debug;
@@ -23,33 +24,56 @@ pub struct Difference {
 
 type Compared = Result<(), Difference>;
 
-/// The answers of the two, as records.
-fn same<T: Debug + PartialEq>(line: impl Fn() -> String, library: T, reference: T) -> Compared {
-    if library == reference {
-        return Ok(());
+/// The words of a result, or the refusal of a call that writes.
+type Written = Result<Vec<u32>, Refusal>;
+
+/// A case, with the list of words that the library is given. It is a copy, so that a word that was changed is seen.
+struct Asked<'a> {
+    case: &'a Case,
+    given: Vec<u32>,
+}
+
+impl Asked<'_> {
+    /// A call on the sheet, as a line.
+    fn line(&self, call: &str, number: Option<u64>) -> String {
+        joined(call, number, &self.case.words)
     }
-    let what = format!("the library\n  {library:?}\nthe reference implementation\n  {reference:?}");
-    Err(Difference { line: line(), what })
-}
 
-fn on_sheet(call: &str, words: &[u32]) -> String {
-    format!("{call} {}", hexadecimal(words, " "))
-}
+    /// The answers of the two are the same, and the sheet is as it was.
+    fn same<T: Debug + PartialEq>(
+        &self,
+        line: impl Fn() -> String,
+        library: T,
+        reference: T,
+    ) -> Compared {
+        let what = if library != reference {
+            format!("the library\n  {library:?}\nthe reference implementation\n  {reference:?}")
+        } else if self.given != self.case.words {
+            let left = hexadecimal(&self.given, " ");
+            format!("the library left the sheet as\n  {left}")
+        } else {
+            return Ok(());
+        };
+        Err(Difference { line: line(), what })
+    }
 
-/// A call that writes: its record, and every word of the space and beside it.
-fn written(
-    line: impl Fn() -> String,
-    (library, lent): (raw::SpaceReply, &Lent),
-    answer: &Result<Vec<u32>, Refusal>,
-) -> Compared {
-    same(&line, library, expected::space(answer))?;
-    let result = answer.as_ref().map_or(&[][..], Vec::as_slice);
-    match lent.wrong(result) {
-        None => Ok(()),
-        Some((place, holds, due)) => {
-            let what =
-                format!("word {place} of the space holds {holds:08x} and should hold {due:08x}");
-            Err(Difference { line: line(), what })
+    /// A call that writes: its record, and every word of the space and beside it.
+    fn written(
+        &self,
+        line: impl Fn() -> String,
+        (library, lent): (raw::SpaceReply, &Lent),
+        answer: &Written,
+    ) -> Compared {
+        self.same(&line, library, expected::space(answer))?;
+        let result = answer.as_ref().map_or(&[][..], Vec::as_slice);
+        match lent.wrong(result) {
+            None => Ok(()),
+            Some((place, holds, due)) => {
+                let what = format!(
+                    "word {place} of the space holds {holds:08x} and should hold {due:08x}"
+                );
+                Err(Difference { line: line(), what })
+            }
         }
     }
 }
@@ -78,12 +102,7 @@ impl Reworked {
     }
 
     /// The words of a result where the sheet is accepted and the space is enough.
-    fn in_space(
-        &self,
-        space: u64,
-        needed: fn(usize) -> u64,
-        words: Option<Vec<u32>>,
-    ) -> Result<Vec<u32>, Refusal> {
+    fn in_space(&self, space: u64, needed: fn(usize) -> u64, words: Option<Vec<u32>>) -> Written {
         check_space(space, needed(self.read()?.orders.len()))?;
         Ok(words.expect("the sheet is accepted"))
     }
@@ -91,111 +110,99 @@ impl Reworked {
 
 /// Compares all calls on a case and counts what was met.
 pub fn compare(case: &Case, lent: &mut Lent, tally: &mut Tally) -> Compared {
+    let asked = Asked {
+        case,
+        given: case.words.clone(),
+    };
     let reworked = Reworked::of(&case.words);
-    let before = case.words.clone();
-    compare_asking(case, &reworked)?;
-    compare_first_round(case, &reworked, lent)?;
-    compare_opening(case, &reworked, lent)?;
-    compare_bands(case)?;
-    untouched(&case.words, &before)?;
-    tally.add(
-        &reworked.sheet,
-        reworked.opening.as_ref(),
-        case.opening_space,
-    );
+    compare_asking(&asked, &reworked, tally)?;
+    compare_first_round(&asked, &reworked, lent, tally)?;
+    compare_opening(&asked, &reworked, lent, tally)?;
+    compare_bands(&asked, tally)?;
+    tally.sheets += 1;
     Ok(())
 }
 
-/// No call may write into the sheet that it is given.
-fn untouched(words: &[u32], before: &[u32]) -> Compared {
-    if words == before {
-        return Ok(());
-    }
-    Err(Difference {
-        line: on_sheet("opening 15005", before),
-        what: format!("a call left the sheet as\n  {}", hexadecimal(words, " ")),
-    })
-}
-
 /// The calls on a sheet that write nothing.
-fn compare_asking(case: &Case, reworked: &Reworked) -> Compared {
-    let words = &case.words;
-    let (at, count) = (words.as_ptr(), words.len());
+fn compare_asking(asked: &Asked, reworked: &Reworked, tally: &mut Tally) -> Compared {
+    let (at, count) = (asked.given.as_ptr(), asked.given.len());
+    let (order, price) = (asked.case.order, asked.case.price);
+    let due = expected::sheet(reworked.read());
     let checked = unsafe { raw::auction_check(at, count) };
-    same(
-        || on_sheet("check", words),
-        checked,
-        expected::sheet(reworked.read()),
-    )?;
-    let (order, price) = (case.order, case.price);
+    asked.same(|| asked.line("check", None), checked, due)?;
+    tally.met(Call::Check, due.refusal);
+    let due = expected::stepper_limit(reworked.read(), order);
     let limit = unsafe { raw::auction_stepper_limit(at, count, order as usize) };
-    same(
-        || on_sheet(&format!("stepper {order}"), words),
-        limit,
-        expected::stepper_limit(reworked.read(), order),
-    )?;
+    asked.same(|| asked.line("stepper", Some(order)), limit, due)?;
+    tally.met(Call::StepperLimit, due.refusal);
+    let due = expected::curves_at(reworked.read(), price);
     let curves = unsafe { raw::auction_curves_at(at, count, narrow(price)) };
-    same(
-        || on_sheet(&format!("curves {price}"), words),
-        curves,
-        expected::curves_at(reworked.read(), price),
-    )
+    asked.same(|| asked.line("curves", Some(price)), curves, due)?;
+    tally.met(Call::CurvesAt, due.refusal);
+    Ok(())
 }
 
-fn compare_first_round(case: &Case, reworked: &Reworked, lent: &mut Lent) -> Compared {
-    let (words, room) = (&case.words, case.round_space);
+fn compare_first_round(
+    asked: &Asked,
+    reworked: &Reworked,
+    lent: &mut Lent,
+    tally: &mut Tally,
+) -> Compared {
+    let (given, space) = (&asked.given, asked.case.round_space);
     let result = reworked.first.as_ref().map(Round::words);
-    let answer = reworked.in_space(room, space_of_round, result);
-    let library = lent.lend(room as usize, case.price as u32, |space, room| unsafe {
-        raw::auction_first_round(words.as_ptr(), words.len(), space, room)
+    let answer = reworked.in_space(space, space_of_round, result);
+    let library = lent.lend(space as usize, asked.case.price as u32, |at, room| unsafe {
+        raw::auction_first_round(given.as_ptr(), given.len(), at, room)
     });
-    written(
-        || on_sheet(&format!("round {room}"), words),
-        (library, lent),
-        &answer,
-    )
+    let line = || asked.line("round", Some(space));
+    asked.written(line, (library, lent), &answer)?;
+    tally.met(Call::FirstRound, expected::space(&answer).refusal);
+    Ok(())
 }
 
-fn compare_opening(case: &Case, reworked: &Reworked, lent: &mut Lent) -> Compared {
-    let (words, room) = (&case.words, case.opening_space);
+fn compare_opening(
+    asked: &Asked,
+    reworked: &Reworked,
+    lent: &mut Lent,
+    tally: &mut Tally,
+) -> Compared {
+    let (given, space) = (&asked.given, asked.case.opening_space);
     let result = reworked.opening.as_ref().map(Opening::words);
-    let answer = reworked.in_space(room, space_of_opening, result);
-    let library = lent.lend(room as usize, case.price as u32, |space, room| unsafe {
-        raw::auction_opening(words.as_ptr(), words.len(), space, room)
+    let answer = reworked.in_space(space, space_of_opening, result);
+    let library = lent.lend(space as usize, asked.case.price as u32, |at, room| unsafe {
+        raw::auction_opening(given.as_ptr(), given.len(), at, room)
     });
-    written(
-        || on_sheet(&format!("opening {room}"), words),
-        (library, lent),
-        &answer,
-    )
+    let line = || asked.line("opening", Some(space));
+    asked.written(line, (library, lent), &answer)?;
+    tally.met(Call::Opening, expected::space(&answer).refusal);
+    if let (Ok(sheet), Some(opening), Ok(_)) = (&reworked.sheet, &reworked.opening, &answer) {
+        tally.opened(sheet, opening);
+    }
+    Ok(())
 }
 
 /// The calls without a sheet.
-fn compare_bands(case: &Case) -> Compared {
-    let asked = &case.indicative;
-    let (lower, upper) = asked.band;
-    let (traded, closing, auction) = (asked.traded, asked.closing, asked.auction);
+fn compare_bands(asked: &Asked, tally: &mut Tally) -> Compared {
+    let of = &asked.case.indicative;
+    let (lower, upper) = of.band;
+    let (traded, closing, auction) = (of.traded, of.closing, of.auction);
     let (low, high) = (narrow(lower), narrow(upper));
+    let due = expected::indicative(of);
+    let line = || format!("indicative {lower} {upper} {traded} {closing} {auction}");
     let price = unsafe {
         raw::auction_indicative_price(low, high, traded, narrow(closing), narrow(auction))
     };
-    same(
-        || format!("indicative {lower} {upper} {traded} {closing} {auction}"),
-        price,
-        expected::indicative(asked),
-    )?;
-    let (code, indicative) = case.next;
+    asked.same(line, price, due)?;
+    tally.met(Call::IndicativePrice, due.refusal);
+    let (code, indicative) = asked.case.next;
+    let due = expected::next(asked.case.next);
     let band = unsafe { raw::auction_next_band(narrow(code), narrow(indicative)) };
-    same(
-        || format!("next {code} {indicative}"),
-        band,
-        expected::next(case.next),
-    )?;
-    let ((lower, upper), side) = case.widening;
+    asked.same(|| format!("next {code} {indicative}"), band, due)?;
+    tally.met(Call::NextBand, due.refusal);
+    let ((lower, upper), side) = asked.case.widening;
+    let due = expected::widened(asked.case.widening);
     let band = unsafe { raw::auction_widened_band(narrow(lower), narrow(upper), narrow(side)) };
-    same(
-        || format!("widen {lower} {upper} {side}"),
-        band,
-        expected::widened(case.widening),
-    )
+    asked.same(|| format!("widen {lower} {upper} {side}"), band, due)?;
+    tally.met(Call::WidenedBand, due.refusal);
+    Ok(())
 }

@@ -1,15 +1,37 @@
 //! What was met on the way.
 
-use reference::answer::{space_of_opening, Opening};
-use reference::refusal::Refusal;
+use reference::answer::Opening;
 use reference::sheet::{Order, Pieces, Sheet};
+
+#[derive(Clone, Copy)]
+pub enum Call {
+    Check,
+    StepperLimit,
+    CurvesAt,
+    FirstRound,
+    Opening,
+    IndicativePrice,
+    NextBand,
+    WidenedBand,
+}
+
+/// Their names, in the same order.
+const CALLS: [&str; 8] = [
+    "check",
+    "stepper_limit",
+    "curves_at",
+    "first_round",
+    "opening",
+    "indicative_price",
+    "next_band",
+    "widened_band",
+];
 
 #[derive(Default)]
 pub struct Tally {
     pub sheets: u64,
-    /// By number; 10 is that of the opening's space.
-    refused: [u64; 13],
-    openings: u64,
+    /// For each call, how often it was refused with each number; under 0, how often it answered.
+    calls: [[u64; 12]; 8],
     /// Openings of 1, 2, 3 to 9, 10 to 59, 60 rounds and more.
     rounds: [u64; 5],
     most_rounds: usize,
@@ -20,26 +42,17 @@ pub struct Tally {
     largest: u64,
     with_steppers: u64,
     with_all_or_none: u64,
-    /// Rounds whose auction price lies outside the band.
-    outside: u64,
-    /// Openings in which pieces trade.
+    /// Openings whose first round trades.
     trading: u64,
 }
 
 impl Tally {
-    pub fn add(&mut self, sheet: &Result<Sheet, Refusal>, opening: Option<&Opening>, space: u64) {
-        self.sheets += 1;
-        match (sheet, opening) {
-            (Ok(sheet), Some(_)) if space < space_of_opening(sheet.orders.len()) => {
-                self.refused[10] += 1
-            }
-            (Ok(sheet), Some(opening)) => self.add_opening(sheet, opening),
-            (Err(refusal), _) => self.refused[refusal.number as usize] += 1,
-            _ => {}
-        }
+    pub fn met(&mut self, call: Call, refusal: u32) {
+        self.calls[call as usize][refusal as usize] += 1;
     }
 
-    fn add_opening(&mut self, sheet: &Sheet, opening: &Opening) {
+    /// An opening that was not refused.
+    pub fn opened(&mut self, sheet: &Sheet, opening: &Opening) {
         let (rounds, orders) = (opening.rounds.len(), sheet.orders.len());
         let bucket = match rounds {
             0 | 1 => 0,
@@ -48,7 +61,6 @@ impl Tally {
             10..=59 => 3,
             _ => 4,
         };
-        self.openings += 1;
         self.rounds[bucket] += 1;
         self.most_rounds = self.most_rounds.max(rounds);
         self.endings[opening.ending as usize] += 1;
@@ -58,9 +70,7 @@ impl Tally {
         self.with_all_or_none += u64::from(sheet.orders.iter().any(Order::is_all_or_none));
         self.trading += u64::from(opening.rounds[0].total > Pieces(0));
         for round in &opening.rounds {
-            let crossed = round.situation == 0;
             self.situations[round.situation as usize] += 1;
-            self.outside += u64::from(crossed && !sheet.in_band(round.auction_price));
         }
     }
 
@@ -68,45 +78,50 @@ impl Tally {
         let sum = |own: &mut [u64], others: &[u64]| {
             own.iter_mut().zip(others).for_each(|(own, n)| *own += n);
         };
-        sum(&mut self.refused, &other.refused);
+        for (own, others) in self.calls.iter_mut().zip(&other.calls) {
+            sum(own, others);
+        }
         sum(&mut self.rounds, &other.rounds);
         sum(&mut self.situations, &other.situations);
         sum(&mut self.endings, &other.endings);
         self.sheets += other.sheets;
-        self.openings += other.openings;
         self.most_rounds = self.most_rounds.max(other.most_rounds);
         self.large += other.large;
         self.largest += other.largest;
         self.with_steppers += other.with_steppers;
         self.with_all_or_none += other.with_all_or_none;
-        self.outside += other.outside;
         self.trading += other.trading;
     }
 
     pub fn print(&self) {
+        println!("sheets: {}", self.sheets);
+        for (name, counts) in CALLS.iter().zip(&self.calls) {
+            print_call(name, counts);
+        }
         let [one, two, few, many, sixty] = self.rounds;
         println!(
-            "sheets: {}, each with every call; openings not refused: {}",
-            self.sheets, self.openings
-        );
-        let refused = self.refused.iter().enumerate().filter(|(_, n)| **n > 0);
-        let refused: Vec<String> = refused
-            .map(|(number, n)| format!("{number}: {n}"))
-            .collect();
-        println!("openings refused, by number: {}", refused.join(", "));
-        println!(
-            "of 100 orders and more: {}, of 120: {}",
+            "openings of 100 orders and more: {}, of 120: {}",
             self.large, self.largest
         );
         println!(
-            "with Steppers: {}, with all-or-none orders: {}, trading: {}",
-            self.with_steppers, self.with_all_or_none, self.trading
+            "with Steppers: {}, with all-or-none orders: {}",
+            self.with_steppers, self.with_all_or_none
         );
-        println!("rounds: one {one}, two {two}, 3 to 9 {few}, 10 to 59 {many}, 60 and more {sixty}, at most {}", self.most_rounds);
-        println!(
-            "situations 0 to 4: {:?}; outside the band: {}",
-            self.situations, self.outside
-        );
+        println!("trading in the first round: {}", self.trading);
+        println!("of one round {one}, of two {two}, of 3 to 9 {few}, of 10 to 59 {many}, of 60 and more {sixty}");
+        println!("most rounds: {}", self.most_rounds);
+        println!("rounds of situations 0 to 4: {:?}", self.situations);
         println!("endings 0 to 2: {:?}", self.endings);
     }
+}
+
+/// How often a call answered, and the refusals that it met by their numbers.
+fn print_call(name: &str, counts: &[u64; 12]) {
+    let met = counts.iter().enumerate().skip(1).filter(|(_, n)| **n > 0);
+    let refused: Vec<String> = met.map(|(number, n)| format!("{number}: {n}")).collect();
+    println!(
+        "{name}: answered {}, refused {}",
+        counts[0],
+        refused.join(", ")
+    );
 }

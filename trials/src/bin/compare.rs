@@ -1,6 +1,8 @@
 //! compare COUNT SEED [FIRST]: compares the library with the reference implementation on the cases FIRST, FIRST + 1, .. of a seed,
 //! on all processors at once, and stops at the first that differs.
 
+use reference::lines::joined;
+use std::ops::Range;
 use std::panic::{catch_unwind, AssertUnwindSafe};
 use std::process::ExitCode;
 use std::sync::atomic::{AtomicU64, Ordering};
@@ -37,9 +39,11 @@ impl Run {
         found.as_ref().is_none_or(|(lowest, _)| case < *lowest)
     }
 
+    /// Keeps a difference, unless one of a lower case is known.
     fn note(&self, case: u64, difference: Difference) {
-        if self.wanted(case) {
-            *self.found.lock().expect("no thread panics") = Some((case, difference));
+        let mut found = self.found.lock().expect("no thread panics");
+        if found.as_ref().is_none_or(|(lowest, _)| case < *lowest) {
+            *found = Some((case, difference));
         }
     }
 
@@ -60,22 +64,37 @@ impl Run {
         self.tally.lock().expect("no thread panics").join(&tally);
     }
 
-    /// The first case of a block that differs. A panic of the reference implementation is a difference too.
+    /// The first case of a block that differs. Where the reference implementation panics, also while a sheet is drawn with its
+    /// help, that is a difference too.
     fn block(
         &self,
-        mut cases: std::ops::Range<u64>,
+        mut cases: Range<u64>,
         lent: &mut Lent,
         tally: &mut Tally,
     ) -> Option<(u64, Difference)> {
         cases.find_map(|number| {
-            let case = Case::drawn(self.seed, number);
-            let compared = catch_unwind(AssertUnwindSafe(|| compare(&case, lent, tally)));
+            let compared = catch_unwind(AssertUnwindSafe(|| {
+                compare(&Case::drawn(self.seed, number), lent, tally)
+            }));
             match compared {
                 Ok(Ok(())) => None,
                 Ok(Err(difference)) => Some((number, difference)),
-                Err(_) => Some((number, panicked(&case))),
+                Err(_) => Some((number, self.gave_up(number))),
             }
         })
+    }
+
+    fn gave_up(&self, number: u64) -> Difference {
+        let drawn = catch_unwind(|| Case::drawn(self.seed, number));
+        let line = match &drawn {
+            Ok(case) => joined("opening", Some(case.opening_space), &case.words),
+            Err(_) => "none: it gave up while the sheet was drawn".to_string(),
+        };
+        let what = "the reference implementation gave up on this sheet, as its message says";
+        Difference {
+            line,
+            what: what.to_string(),
+        }
     }
 
     fn progress(&self, since: Instant) {
@@ -84,14 +103,6 @@ impl Run {
             "\r{done} of {count} sheets, {} s ",
             since.elapsed().as_secs()
         );
-    }
-}
-
-fn panicked(case: &Case) -> Difference {
-    let words = reference::answer::hexadecimal(&case.words, " ");
-    Difference {
-        line: format!("opening {} {words}", case.opening_space),
-        what: "the reference implementation gave up".to_string(),
     }
 }
 

@@ -29,14 +29,10 @@ fn reference_opening(words: &[u32], space: &mut [u32]) -> usize {
     result.len()
 }
 
-fn reference(words: &[u32], space: &mut [u32]) -> usize {
-    reference_opening(words, space)
-}
-
 fn engine(name: &str) -> Option<Engine> {
     match name {
         "library" => Some(library),
-        "reference" => Some(reference),
+        "reference" => Some(reference_opening),
         _ => None,
     }
 }
@@ -66,7 +62,7 @@ fn times() {
         let (mut own, mut other) = (Vec::new(), Vec::new());
         for _ in 0..7 {
             own.push(timed(library, &sheets, &mut space));
-            other.push(timed(reference, &sheets, &mut space));
+            other.push(timed(reference_opening, &sheets, &mut space));
         }
         println!("{name} {:.9} {:.9}", middle(own), middle(other));
     }
