@@ -58,13 +58,13 @@ impl Asked<'_> {
     }
 
     /// A call that writes: its record, and every word of the space and beside it.
-    fn written(
-        &self,
-        line: impl Fn() -> String,
-        (library, lent): (raw::SpaceReply, &Lent),
-        answer: &Written,
-    ) -> Compared {
-        self.same(&line, library, expected::space(answer))?;
+    fn written(&self, call: &Writing, space: u64, answer: &Written, lent: &mut Lent) -> Compared {
+        let (given, salt) = (&self.given, self.case.price as u32);
+        let library = lent.lend(space as usize, salt, |at, room| unsafe {
+            (call.library)(given.as_ptr(), given.len(), at, room)
+        });
+        let line = || self.line(call.line, Some(space));
+        self.same(line, library, expected::space(answer))?;
         let result = answer.as_ref().map_or(&[][..], Vec::as_slice);
         match lent.wrong(result) {
             None => Ok(()),
@@ -77,6 +77,22 @@ impl Asked<'_> {
         }
     }
 }
+
+/// A call that writes: its name in a line, and the function of the library.
+struct Writing {
+    line: &'static str,
+    library: unsafe extern "C" fn(*const u32, usize, *mut u32, usize) -> raw::SpaceReply,
+}
+
+const FIRST_ROUND: Writing = Writing {
+    line: "round",
+    library: raw::auction_first_round,
+};
+
+const OPENING: Writing = Writing {
+    line: "opening",
+    library: raw::auction_opening,
+};
 
 /// What the reference implementation makes of a sheet.
 struct Reworked {
@@ -101,10 +117,20 @@ impl Reworked {
         self.sheet.as_ref().map_err(|refusal| *refusal)
     }
 
-    /// The words of a result where the sheet is accepted and the space is enough.
-    fn in_space(&self, space: u64, needed: fn(usize) -> u64, words: Option<Vec<u32>>) -> Written {
-        check_space(space, needed(self.read()?.orders.len()))?;
-        Ok(words.expect("the sheet is accepted"))
+    /// The words of the first round, where the sheet is accepted and the space is enough.
+    fn first_in(&self, space: u64) -> Written {
+        check_space(space, space_of_round(self.read()?.orders.len()))?;
+        Ok(self.first.as_ref().expect("the sheet is accepted").words())
+    }
+
+    /// The words of the opening, likewise.
+    fn opening_in(&self, space: u64) -> Written {
+        check_space(space, space_of_opening(self.read()?.orders.len()))?;
+        Ok(self
+            .opening
+            .as_ref()
+            .expect("the sheet is accepted")
+            .words())
     }
 }
 
@@ -116,8 +142,7 @@ pub fn compare(case: &Case, lent: &mut Lent, tally: &mut Tally) -> Compared {
     };
     let reworked = Reworked::of(&case.words);
     compare_asking(&asked, &reworked, tally)?;
-    compare_first_round(&asked, &reworked, lent, tally)?;
-    compare_opening(&asked, &reworked, lent, tally)?;
+    compare_writing(&asked, &reworked, lent, tally)?;
     compare_bands(&asked, tally)?;
     tally.sheets += 1;
     Ok(())
@@ -142,40 +167,22 @@ fn compare_asking(asked: &Asked, reworked: &Reworked, tally: &mut Tally) -> Comp
     Ok(())
 }
 
-fn compare_first_round(
+/// The first round and the opening.
+fn compare_writing(
     asked: &Asked,
     reworked: &Reworked,
     lent: &mut Lent,
     tally: &mut Tally,
 ) -> Compared {
-    let (given, space) = (&asked.given, asked.case.round_space);
-    let result = reworked.first.as_ref().map(Round::words);
-    let answer = reworked.in_space(space, space_of_round, result);
-    let library = lent.lend(space as usize, asked.case.price as u32, |at, room| unsafe {
-        raw::auction_first_round(given.as_ptr(), given.len(), at, room)
-    });
-    let line = || asked.line("round", Some(space));
-    asked.written(line, (library, lent), &answer)?;
-    tally.met(Call::FirstRound, expected::space(&answer).refusal);
-    Ok(())
-}
-
-fn compare_opening(
-    asked: &Asked,
-    reworked: &Reworked,
-    lent: &mut Lent,
-    tally: &mut Tally,
-) -> Compared {
-    let (given, space) = (&asked.given, asked.case.opening_space);
-    let result = reworked.opening.as_ref().map(Opening::words);
-    let answer = reworked.in_space(space, space_of_opening, result);
-    let library = lent.lend(space as usize, asked.case.price as u32, |at, room| unsafe {
-        raw::auction_opening(given.as_ptr(), given.len(), at, room)
-    });
-    let line = || asked.line("opening", Some(space));
-    asked.written(line, (library, lent), &answer)?;
-    tally.met(Call::Opening, expected::space(&answer).refusal);
-    if let (Ok(sheet), Some(opening), Ok(_)) = (&reworked.sheet, &reworked.opening, &answer) {
+    let space = asked.case.round_space;
+    let first = reworked.first_in(space);
+    asked.written(&FIRST_ROUND, space, &first, lent)?;
+    tally.met(Call::FirstRound, expected::space(&first).refusal);
+    let space = asked.case.opening_space;
+    let opened = reworked.opening_in(space);
+    asked.written(&OPENING, space, &opened, lent)?;
+    tally.met(Call::Opening, expected::space(&opened).refusal);
+    if let (Ok(sheet), Some(opening), Ok(_)) = (&reworked.sheet, &reworked.opening, &opened) {
         tally.opened(sheet, opening);
     }
     Ok(())
