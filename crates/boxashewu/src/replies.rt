@@ -11,6 +11,11 @@ use rules::CurvesAnswer;
 use rules::PriceAnswer;
 use rules::SpaceAnswer;
 
+// What stands for the refusal and for its order where a call answers.
+const ANSWERED: u32 = 0;
+
+const NO_ORDER: usize = 0;
+
 #[repr(C)]
 pub struct SheetReply {
     pub refusal: u32,
@@ -53,8 +58,8 @@ pub(crate) fn sheet_reply(answer: Checked) -> SheetReply
 {
     match answer {
         Checked::Accepted => SheetReply {
-            refusal: 0,
-            order: 0,
+            refusal: ANSWERED,
+            order: NO_ORDER,
         },
         Checked::Refused(refusal) => SheetReply {
             refusal: refusal.number(),
@@ -68,8 +73,8 @@ pub(crate) fn price_reply(answer: PriceAnswer) -> PriceReply
 {
     match answer {
         PriceAnswer::At(price) => PriceReply {
-            refusal: 0,
-            order: 0,
+            refusal: ANSWERED,
+            order: NO_ORDER,
             price: price.0,
         },
         PriceAnswer::Refused(refusal) => PriceReply {
@@ -89,8 +94,8 @@ pub(crate) fn curves_reply(answer: CurvesAnswer) -> CurvesReply
             supply,
             volume,
         } => CurvesReply {
-            refusal: 0,
-            order: 0,
+            refusal: ANSWERED,
+            order: NO_ORDER,
             demand: demand.0,
             supply: supply.0,
             volume: volume.0,
@@ -110,8 +115,8 @@ pub(crate) fn space_reply(answer: SpaceAnswer) -> SpaceReply
 {
     match answer {
         SpaceAnswer::Written(count) => SpaceReply {
-            refusal: 0,
-            order: 0,
+            refusal: ANSWERED,
+            order: NO_ORDER,
             count,
         },
         SpaceAnswer::Refused(refusal) => SpaceReply {
@@ -127,8 +132,8 @@ pub(crate) fn band_reply(answer: BandAnswer) -> BandReply
 {
     match answer {
         BandAnswer::Bounds { lower, upper } => BandReply {
-            refusal: 0,
-            order: 0,
+            refusal: ANSWERED,
+            order: NO_ORDER,
             lower: lower.0,
             upper: upper.0,
         },
