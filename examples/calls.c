@@ -24,9 +24,9 @@ static uint32_t narrow(uint64_t number) {
 }
 
 /* Whether the call answers; its refusal is printed here. */
-static int answers(uint32_t refusal, size_t order) {
+static int answers(uint32_t refusal, size_t place) {
     if (refusal != 0) {
-        printf("refused %" PRIu32 " %zu\n", refusal, order);
+        printf("refused %" PRIu32 " %zu\n", refusal, place);
     }
     return refusal == 0;
 }
@@ -64,6 +64,13 @@ static void print_band(struct auction_band reply) {
     }
 }
 
+static void print_waiting(struct auction_waiting reply) {
+    if (answers(reply.refusal, reply.place)) {
+        printf("%" PRIu32 " %" PRIu32 " %" PRIu32 " %" PRIu32 " %" PRIu32 " %" PRIu32 "\n", reply.phase, reply.start,
+               reply.side, reply.lower, reply.upper, reply.due);
+    }
+}
+
 /* The next `most` fields of the line as decimal numbers; how many there were. */
 static size_t read_numbers(size_t most) {
     size_t count = 0;
@@ -73,7 +80,7 @@ static size_t read_numbers(size_t most) {
     return count;
 }
 
-/* The other fields of the line, as the words of a sheet; how many there are. */
+/* The other fields of the line, as the words of a list; how many there are. */
 static size_t read_words(void) {
     size_t count = 0;
     for (char *field; count < MOST_WORDS && (field = strtok(NULL, " \n")); count++) {
@@ -117,6 +124,9 @@ static int answer_on_band(const char *call) {
         print_band(auction_next_band(narrow(numbers[0]), narrow(numbers[1])));
     } else if (strcmp(call, "widen") == 0 && read_numbers(3) == 3) {
         print_band(auction_widened_band(narrow(numbers[0]), narrow(numbers[1]), narrow(numbers[2])));
+    } else if (strcmp(call, "waiting") == 0 && read_numbers(2) == 2) {
+        size_t count = read_words();
+        print_waiting(auction_waiting_clock(narrow(numbers[0]), narrow(numbers[1]), words, count));
     } else {
         return 0;
     }

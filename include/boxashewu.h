@@ -39,11 +39,21 @@
  *                       whether pieces trade or not, and waiting begins. Ending 1: neither, and all-or-none orders let
  *                       nothing trade
  *
+ * A waiting list has any number of words, none too. One after the other they say seconds of the day, and where rounds were
+ * priced:
+ *
+ *     list    kind 1    the second of the day, 0 to 86,399, not lower than one said before
+ *                  2    a round priced above the band, with value 0
+ *                  3    one priced below it, likewise
+ *                  4    one priced inside it, likewise
+ *
  * A Stepper stands one step ahead of its rivals, the other orders of its side, as far as its own limit lets it: that is its
  * limit in force.
  *
  * Answers. Every record begins with `refusal`: 0 where the call answers, else the number of the refusal, and then all that
  * the call would give is 0. For refusals 5 to 8 `order` is the number of the order at fault; else it is 0 and means nothing.
+ * The record of the waiting clock has `place` instead: for refusals 11, 13 and 14 which word of the list is at fault, counted
+ * from 0; else it is 0 and means nothing.
  *
  *      1  a sheet of fewer than 5 words
  *      2  a word of a wrong kind in the heading, the first 5 words
@@ -56,10 +66,12 @@
  *      9  an argument that is not allowed
  *     10  too few words in the lent space
  *     11  a band that cannot be had
+ *     13  a word of a waiting list that has another kind, or a value that its kind may not have
+ *     14  a second of a waiting list that is lower than one before
  *
  * The first fault is the answer. They are judged in this order: of the heading 1 to 4, each over all its words before the
- * next; then of each order in turn 5 to 8, likewise; then 9; last 10 or 11, of which no call has both. (12 is of the opening
- * program alone, for bytes that are no list of words.)
+ * next; then of each order in turn 5 to 8, likewise; then 9; then of each word of a waiting list in turn 13, 14, 11; last 10,
+ * or 11 where a band is all that is asked for. (12 is of the opening program alone, for bytes that are no list of words.)
  *
  * What a caller owes. No call can check these, and if one of them fails, nothing is promised:
  *
@@ -125,6 +137,17 @@ struct auction_band {
     uint32_t upper;
 };
 
+struct auction_waiting {
+    uint32_t refusal;
+    size_t place;
+    uint32_t phase;
+    uint32_t start;
+    uint32_t side;
+    uint32_t lower;
+    uint32_t upper;
+    uint32_t due;
+};
+
 /* Checks a sheet. Refusals 1 to 8. */
 struct auction_sheet auction_check(const uint32_t *words, size_t count);
 
@@ -156,6 +179,19 @@ struct auction_band auction_next_band(uint32_t code, uint32_t indicative);
  * where it was, so that a bound below 10 does not move; the other stays. 9 for another side, or if the bounds are no band;
  * 11 if the upper bound would be off the grid. */
 struct auction_band auction_widened_band(uint32_t lower, uint32_t upper, uint32_t side);
+
+/* The waiting clock: what the words of a waiting list lead to, from a starting band on. `phase` is 1 during a waiting phase,
+ * else 0; `start` is the second at which it started and `side` the side of its latest round, 0 above and 1 below, both 0
+ * outside a phase; then the band, and how many openings are due.
+ *
+ * A round above or below the band sets the side. If no phase is on it starts one, at the latest second said, or at 0 if none
+ * was; else the start stays. A round inside the band ends a phase. A second that is 600 or more after the start ends it too:
+ * then the band is widened on the phase's side, as auction_widened_band does it, and one more opening is due. At most 143 can
+ * be, as a phase that ends so takes 600 seconds of the day.
+ *
+ * 9 if the bounds are no band, before any word is looked at. Then of each word in turn 13, 14, and 11 if it is a second that
+ * ends a phase and the upper bound would be off the grid. */
+struct auction_waiting auction_waiting_clock(uint32_t lower, uint32_t upper, const uint32_t *words, size_t count);
 
 #ifdef __cplusplus
 }

@@ -41,6 +41,22 @@ impl fmt::Display for Refusal {
 
 impl std::error::Error for Refusal {}
 
+/// Why a waiting list is not followed: 9 for the starting band, or 11, 13 or 14 and the word at fault, counted from 0.
+#[derive(Clone, Copy, Debug, PartialEq, Eq)]
+pub struct WaitingRefusal {
+    pub number: u32,
+    pub word: Option<usize>,
+}
+
+impl fmt::Display for WaitingRefusal {
+    /// As the programs print it: the number, and the word or 0.
+    fn fmt(&self, out: &mut fmt::Formatter) -> fmt::Result {
+        write!(out, "refused {} {}", self.number, self.word.unwrap_or(0))
+    }
+}
+
+impl std::error::Error for WaitingRefusal {}
+
 #[derive(Clone, Copy, Debug, PartialEq, Eq)]
 pub struct Curves {
     pub demand: u64,
@@ -52,6 +68,21 @@ pub struct Curves {
 pub struct Band {
     pub lower: u32,
     pub upper: u32,
+}
+
+/// A waiting phase: the second of the day at which it started, and the side of its latest round, 0 above the band and 1 below.
+#[derive(Clone, Copy, Debug, PartialEq, Eq)]
+pub struct Phase {
+    pub start: u32,
+    pub side: u32,
+}
+
+/// What a waiting list leads to: the phase that is on, if any, the band, and how many openings are due.
+#[derive(Clone, Copy, Debug, PartialEq, Eq)]
+pub struct Waiting {
+    pub phase: Option<Phase>,
+    pub band: Band,
+    pub due: u32,
 }
 
 /// The records and functions as the library has them.
@@ -98,6 +129,19 @@ pub mod raw {
         pub upper: u32,
     }
 
+    #[repr(C)]
+    #[derive(Clone, Copy, Debug, PartialEq, Eq)]
+    pub struct WaitingReply {
+        pub refusal: u32,
+        pub place: usize,
+        pub phase: u32,
+        pub start: u32,
+        pub side: u32,
+        pub lower: u32,
+        pub upper: u32,
+        pub due: u32,
+    }
+
     #[link(name = "boxashewu", kind = "static")]
     unsafe extern "C" {
         pub fn auction_check(words: *const u32, count: usize) -> SheetReply;
@@ -124,6 +168,12 @@ pub mod raw {
         ) -> PriceReply;
         pub fn auction_next_band(code: u32, indicative: u32) -> BandReply;
         pub fn auction_widened_band(lower: u32, upper: u32, side: u32) -> BandReply;
+        pub fn auction_waiting_clock(
+            lower: u32,
+            upper: u32,
+            words: *const u32,
+            count: usize,
+        ) -> WaitingReply;
     }
 }
 
@@ -221,4 +271,26 @@ pub fn widened_band(lower: u32, upper: u32, side: u32) -> Result<Band, Refusal> 
             upper: reply.upper,
         },
     )
+}
+
+/// What the words of a waiting list lead to, from a starting band on. 9 if the bounds are no band; then of each word in turn 13 if
+/// its kind or value is wrong, 14 if it is a second lower than one before, 11 if it is a second that ends a phase and the upper bound
+/// would be off the grid.
+pub fn waiting_clock(lower: u32, upper: u32, words: &[u32]) -> Result<Waiting, WaitingRefusal> {
+    let reply = unsafe { raw::auction_waiting_clock(lower, upper, words.as_ptr(), words.len()) };
+    let (start, side) = (reply.start, reply.side);
+    match reply.refusal {
+        0 => Ok(Waiting {
+            phase: (reply.phase == 1).then_some(Phase { start, side }),
+            band: Band {
+                lower: reply.lower,
+                upper: reply.upper,
+            },
+            due: reply.due,
+        }),
+        number => Err(WaitingRefusal {
+            number,
+            word: (number != 9).then_some(reply.place),
+        }),
+    }
 }

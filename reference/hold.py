@@ -4,7 +4,7 @@
     reference/hold.py [COUNT] [SEED]
 
 Random calls are made and answered by the reference implementation: COUNT whole openings, and a third as many of each other
-call on a sheet and of the band's calls together. A scratch crate outside the project then states, for each, that the rules
+call on a sheet, of the band's calls together and of the waiting clock. A scratch crate outside the project then states, for each, that the rules
 answer the same, and the checker proves it. An answer that differs leaves the scratch crate unproved.
 """
 import os
@@ -35,7 +35,7 @@ def imports_and_names():
     lines = [line for line in proof.splitlines() if line.startswith("use Rattle·") and ".Cases." not in line]
     for ours, theirs in own.items():
         lines = [line.replace(ours, theirs) for line in lines]
-    names = re.search(r"^unfolding allSame same sameNumbers documentCases furtherCases (.*)$", proof, re.M).group(1)
+    names = re.search(r"^unfolding allSame same sameNumbers documentCases furtherCases waitingCases (.*)$", proof, re.M).group(1)
     return lines, names
 
 
@@ -59,6 +59,8 @@ def call(line):
         return f"check ({words(parts)})"
     if name in ON_A_SHEET:
         return f"{ON_A_SHEET[name]} ({words(parts[1:])}) {parts[0]}"
+    if name == "waiting":
+        return f"waiting {parts[0]} {parts[1]} ({words(parts[2:])})"
     return " ".join([name, *parts])
 
 
@@ -81,7 +83,7 @@ def vectors(rows):
         *lines,
         "use Rattle.rules.proofs.Cases.{sameNumbers, same, allSame, all-same}",
         "use Rattle.rules.specs.Cases.{Case, case, AllHold}",
-        "use Rattle.rules.specs.Calls.{check, stepperLimit, curvesAt, firstRound, opening, indicative, next, widen}",
+        "use Rattle.rules.specs.Calls.{check, stepperLimit, curvesAt, firstRound, opening, indicative, next, widen, waiting}",
     ]
     for number, row in enumerate(rows):
         text += [
@@ -126,6 +128,10 @@ def coverage(lines, answers):
         elif line.startswith("opening"):
             seen.update(orders_of([int(word, 16) for word in line.split()[2:]]))
             seen.update(rounds_of([int(word, 16) for word in answer.split()]))
+        elif line.startswith("waiting"):
+            phase, *_, due = answer.split()
+            seen.update([f"waiting lists to a phase {'that is on' if phase == '1' else 'that is over, or to none'}",
+                         f"waiting lists with {min(int(due), 2)}{' and more' * (int(due) > 1)} openings due"])
     return seen
 
 
@@ -157,14 +163,14 @@ def rounds_of(result):
 
 def random_lines(count, seed):
     """Whole openings of small sheets, a third as many first rounds of others, at times in a space one word short, and as many
-    of each other call on a sheet and of the band's calls together."""
+    of each other call on a sheet, of the band's calls together and of the waiting clock."""
     some = max(int(count) // 3, 1)
     lines = reference("sheets", "small", count, seed)
     for number, line in enumerate(reference("sheets", "small", str(some), seed + "1")):
         _, _, *sheet = line.split()
         short = number % 8 == 0
         lines.append(" ".join(["round", str(4 + (len(sheet) - 5) // 3 - short), *sheet]))
-    for kind in ("check", "stepper", "curves", "band"):
+    for kind in ("check", "stepper", "curves", "band", "waiting"):
         made = reference("sheets", kind, str(8 * some), seed)
         lines += [line for line in made if len(line.split()) <= MOST_WORDS + 2][:some]
     return lines

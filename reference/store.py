@@ -7,7 +7,9 @@ Of the random lines it takes the first 200 of small sheets (up to 30 orders), th
 and the first 8 of each refusal (up to 40 orders), and appends them to the file LINES and the reference implementation's answers
 to the file ANSWERS, each under a line that says where they are from. Of small first rounds it takes 400 of situation 0 and 160
 of each other, of small openings with each ending 120 of one round, 240 of two and 300 of three or more, of large ones 40 of up
-to 9 rounds, 3 of 10 and more and 3 of 60, and of both calls 40 for which the space is too small.
+to 9 rounds, 3 of 10 and more and 3 of 60, and of both calls 40 for which the space is too small. Of waiting lists it takes 24 of
+up to 60 words and 4 of more for each of 0, 1, 2 to 9 and more openings due, with a phase that is on and with none, and 24 of each
+refusal.
 """
 import collections
 import pathlib
@@ -36,6 +38,10 @@ if kind == "opening":
     small = {"1 round": 120, "2 rounds": 240, "3 rounds and more": 300}
     MOST = {f"{sort}, ending {e}": most for sort, most in small.items() for e in range(3)}
     MOST |= {"large": 40, "large, 10 rounds and more": 3, "large, 60 rounds": 3, "10": 40}
+if kind == "waiting":
+    MOST = {f"{size}, phase {phase}, {due} due": most for size, most in {"short": 24, "long": 4}.items()
+            for phase in (0, 1) for due in ("0", "1", "2 to 9", "more")}
+    MOST |= {number: 24 for number in ("9", "11", "13", "14")}
 LONGEST = 4096
 
 
@@ -56,8 +62,19 @@ def large_sort(answer):
     return "large" if rounds < 10 else "large, 60 rounds" if rounds == 60 else "large, 10 rounds and more"
 
 
+def waiting_sort(line, answer):
+    """What a waiting list is picked as."""
+    if answer.startswith("refused"):
+        return answer.split()[1]
+    phase, *_, due = answer.split()
+    size = "short" if len(line.split()) <= 63 else "long"
+    return f"{size}, phase {phase}, {due if int(due) < 2 else '2 to 9' if int(due) < 10 else 'more'} due"
+
+
 def sort_of(line, answer):
     """What a line is picked as: a refusal's number, a sort of small or of large, or None."""
+    if kind == "waiting":
+        return waiting_sort(line, answer)
     words = line.split()[1:] if kind == "check" else line.split()[2:]
     orders = (len(words) - 5) // 3
     if len(line) > LONGEST:

@@ -1,5 +1,6 @@
-//! Random arguments of the calls: sheets of real sizes, and the numbers beside them, some of them not allowed.
+//! Random arguments of the calls: sheets of real sizes, days, and the numbers beside them, some of them not allowed.
 
+use crate::days::{damage_day, random_day};
 use crate::random::Random;
 use crate::shapes::{random_sheet, sheet_by_lot, Sizes, LOTS, SLOW_LOTS};
 use crate::sheet::{Grid, Sheet, LAST_PRICE, MOST_ORDERS, MOST_PIECES};
@@ -127,4 +128,50 @@ fn band_price(random: &mut Random) -> u64 {
         12 | 13 => random.between(80, 120),
         _ => random.between(1, last),
     }
+}
+
+/// What the waiting clock is asked.
+pub struct Waited {
+    pub band: (u64, u64),
+    pub words: Vec<u32>,
+}
+
+/// About one list in six has faults.
+pub fn waiting(random: &mut Random) -> Waited {
+    let band = waiting_band(random);
+    let mut words = random_day(random);
+    if random.one_in(6) {
+        damage_day(random, &mut words);
+    }
+    Waited { band, words }
+}
+
+/// A starting band: of any sort, and at times none; with an H that some widenings bring to the
+/// end of the grid; of prices too small to move, or nearly; or around a middling price.
+fn waiting_band(random: &mut Random) -> (u64, u64) {
+    match random.below(8) {
+        0 | 1 => band_bounds(random),
+        2..=4 => {
+            let upper = upper_that_runs_out(random);
+            let any = random.between(1, upper - 1);
+            (random.pick(&[any, any, any.min(9), upper - 1]), upper)
+        }
+        5 => {
+            let lower = random.between(1, 10);
+            (lower, random.between(lower + 1, 12))
+        }
+        _ => {
+            let lower = random.between(20, 400_000);
+            (lower, lower + random.between(1, lower / 2))
+        }
+    }
+}
+
+/// The highest H that can be widened so many times, or the next above it, which cannot.
+fn upper_that_runs_out(random: &mut Random) -> u64 {
+    let last = u64::from(LAST_PRICE);
+    let (few, any) = (random.between(0, 12), random.between(0, 130));
+    let times = random.pick(&[0, 1, 1, 2, 2, 3, few, any]);
+    let highest = (0..times).fold(last, |upper, _| (10 * upper + 9) / 11);
+    random.pick(&[highest, highest, highest + 1]).min(last)
 }

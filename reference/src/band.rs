@@ -8,7 +8,7 @@ fn argument(grid: Grid, number: u64) -> Result<Price, Refusal> {
 }
 
 /// D and H as arguments: both on the grid, D below H.
-fn band(grid: Grid, lower: u64, upper: u64) -> Result<(Price, Price), Refusal> {
+pub fn band(grid: Grid, lower: u64, upper: u64) -> Result<(Price, Price), Refusal> {
     let (lower, upper) = (argument(grid, lower)?, argument(grid, upper)?);
     if lower >= upper {
         return Err(ARGUMENT);

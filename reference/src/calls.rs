@@ -5,6 +5,7 @@ use crate::band::{indicative_price, next_band, widening};
 use crate::fast::opening::{curves, first_round, limit_of_stepper, opening};
 use crate::refusal::{Refusal, INPUT};
 use crate::sheet::{read, Grid, Price, HEADING_WORDS, MOST_ORDERS, ORDER_WORDS};
+use crate::waiting::waiting;
 use std::io::{BufRead, Write};
 
 /// The bytes of a sheet with all 120 orders, 1,460.
@@ -70,11 +71,12 @@ fn answer(call: &str, parts: &[&str]) -> Option<Answer> {
         "curves" => with_number(parts, curves_at),
         "round" => with_number(parts, round_in),
         "opening" => with_number(parts, opening_in),
+        "waiting" => waiting_from(parts),
         _ => band_call(call, &numbers(parts)?),
     }
 }
 
-/// The three calls that take no sheet.
+/// The three calls that take numbers alone.
 fn band_call(call: &str, numbers: &[u64]) -> Option<Answer> {
     match (call, numbers) {
         ("indicative", [lower, upper, traded, closing, auction]) => {
@@ -95,6 +97,15 @@ fn both((lower, upper): (Price, Price)) -> String {
 fn with_number(parts: &[&str], call: fn(u64, &[u32]) -> Answer) -> Option<Answer> {
     let (first, rest) = parts.split_first()?;
     Some(call(number(first)?, &words(rest)?))
+}
+
+/// The band's two numbers and then the words that the clock works off, if any.
+fn waiting_from(parts: &[&str]) -> Option<Answer> {
+    let [lower, upper, rest @ ..] = parts else {
+        return None;
+    };
+    let answer = waiting(number(lower)?, number(upper)?, &words(rest)?);
+    Some(answer.map(|waiting| waiting.line()))
 }
 
 fn check(words: &[u32]) -> Answer {

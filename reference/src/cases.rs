@@ -1,9 +1,10 @@
-//! The listing, the cases P1–P12, and the table of refusals. The cases' openings and limits in
-//! force are worked out in both ways; bands and refusals have only one.
+//! The listing, the cases P1–P12, the table of refusals, and the waiting clock. The cases' openings
+//! and limits in force are worked out in both ways; bands, refusals and the clock have only one.
 
 use crate::answer::Opening;
 use crate::calls::{answer_line, opening_program};
 use crate::chains::chain_sheet;
+use crate::lines::{line, Kind};
 use crate::shapes::{mirrored, Sizes};
 use crate::sheet::{Grid, Order, Pieces, Price, Sheet, Side, Terms};
 use crate::{fast, literal, random::Random};
@@ -342,4 +343,282 @@ fn chains_run_sixty_rounds() {
             assert_eq!(opening.rounds.len(), 60);
         }
     }
+}
+
+/// The clock's line for a band and a day. A day is written as seconds in decimal, `above`,
+/// `below`, `inside`, and bare words after an x.
+fn clock_line(band: &str, day: &str) -> String {
+    let mut line = format!("waiting {band}");
+    for part in day.split_whitespace() {
+        line += &match part {
+            "above" => " 20000000".to_string(),
+            "below" => " 30000000".to_string(),
+            "inside" => " 40000000".to_string(),
+            bare if bare.starts_with('x') => bare.replace('x', " "),
+            second => format!(" 1{:07x}", second.parse::<u32>().unwrap()),
+        };
+    }
+    line
+}
+
+fn clocked(band: &str, days: &[(&str, &str)]) {
+    for (day, answer) in days {
+        let line = clock_line(band, day);
+        assert_eq!(answer_line(&line), *answer, "{band}: {day}");
+    }
+}
+
+#[test]
+fn clock_sides_and_starts() {
+    clocked(
+        "90 110",
+        &[
+            // Nothing happens: no words, and seconds alone from the day's first to its last.
+            ("", "0 0 0 90 110 0"),
+            ("0 86399", "0 0 0 90 110 0"),
+            // Before any second a phase counts from 0, and does so when seconds follow.
+            ("above", "1 0 0 90 110 0"),
+            ("below", "1 0 1 90 110 0"),
+            ("above 500", "1 0 0 90 110 0"),
+            // From the latest second, not the first.
+            ("500 above", "1 500 0 90 110 0"),
+            ("500 700 above", "1 700 0 90 110 0"),
+            // The second round turns the side and leaves the start.
+            ("500 above below", "1 500 1 90 110 0"),
+            ("500 above 700 below", "1 500 1 90 110 0"),
+            ("500 below 700 above 700 above", "1 500 0 90 110 0"),
+            // And the latest side is the one widened: 90 to 81, 110 to 121.
+            ("500 above 700 below 1100", "0 0 0 81 110 1"),
+            ("500 below 700 above 1100", "0 0 0 90 121 1"),
+            ("500 below above below above 1100", "0 0 0 90 121 1"),
+            // The wait is not counted from the later round.
+            ("500 above 1099 above 1100", "0 0 0 90 121 1"),
+        ],
+    );
+}
+
+#[test]
+fn clock_rounds_inside() {
+    clocked(
+        "90 110",
+        &[
+            // Alone it does nothing.
+            ("inside", "0 0 0 90 110 0"),
+            ("inside 700 inside", "0 0 0 90 110 0"),
+            // It ends a phase with nothing due, so that no later second ends it again.
+            ("500 above inside", "0 0 0 90 110 0"),
+            ("500 above inside 1100", "0 0 0 90 110 0"),
+            ("500 below 1099 inside 1100", "0 0 0 90 110 0"),
+            // The next phase counts anew, from the second read last.
+            ("500 above inside above", "1 500 0 90 110 0"),
+            ("500 above 600 inside above 1100", "1 600 0 90 110 0"),
+            ("500 above 600 inside above 1200", "0 0 0 90 121 1"),
+            // The side is new as well.
+            ("500 above 600 inside below 1200", "0 0 0 81 110 1"),
+            // What is due stays due, what is widened stays wide.
+            ("above 600 inside", "0 0 0 90 121 1"),
+            ("above 600 below inside", "0 0 0 90 121 1"),
+        ],
+    );
+}
+
+#[test]
+fn clock_endings_by_time() {
+    clocked(
+        "90 110",
+        &[
+            // The 600th second ends it, or one beyond.
+            ("0 above 599", "1 0 0 90 110 0"),
+            ("0 above 600", "0 0 0 90 121 1"),
+            ("0 above 601", "0 0 0 90 121 1"),
+            ("7 above 606", "1 7 0 90 110 0"),
+            ("7 above 607", "0 0 0 90 121 1"),
+            // Also when the phase is older than the first second.
+            ("above 599", "1 0 0 90 110 0"),
+            ("above 599 600", "0 0 0 90 121 1"),
+            ("above 600", "0 0 0 90 121 1"),
+            ("below 40000", "0 0 0 81 110 1"),
+            // However late, once; and it stays ended.
+            ("0 above 86399", "0 0 0 90 121 1"),
+            ("0 above 600 600 1200 86399", "0 0 0 90 121 1"),
+            // Rounds do not end it.
+            ("0 above 599 below above", "1 0 0 90 110 0"),
+            // The day's last second can be the 600th, or the 599th.
+            ("85799 above 86399", "0 0 0 90 121 1"),
+            ("85800 above 86399", "1 85800 0 90 110 0"),
+        ],
+    );
+}
+
+#[test]
+fn clock_further_phases() {
+    clocked(
+        "90 110",
+        &[
+            // A new phase in the second that ended the last counts from that second.
+            ("0 above 600 below", "1 600 1 90 121 1"),
+            ("0 above 600 600 below", "1 600 1 90 121 1"),
+            ("0 above 600 below 1199", "1 600 1 90 121 1"),
+            ("0 above 600 below 1200", "0 0 0 81 121 2"),
+            // Counted from the second that came late, 1000.
+            ("0 above 1000 above 1599", "1 1000 0 90 121 1"),
+            ("0 above 1000 above 1600", "0 0 0 90 133 2"),
+            // 110 to 121, 133 (from 133.1), 146 (from 146.3).
+            ("0 above 600 above 1200 above 1800", "0 0 0 90 146 3"),
+            // 90 to 81, 73 (from 72.9), 66 (from 65.7).
+            ("0 below 600 below 1200 below 1800", "0 0 0 66 110 3"),
+            // Of three phases the middle one ends inside.
+            ("above 600 below inside below 1200", "0 0 0 81 121 2"),
+        ],
+    );
+    // 85.5 is rounded up.
+    clocked("95 110", &[("below 600", "0 0 0 86 110 1")]);
+    // 9.9 and 7.2 are rounded back to where they were, and the openings are due all the same.
+    clocked("8 9", &[("above 600 below 1200", "0 0 0 8 9 2")]);
+}
+
+#[test]
+fn clock_whole_day() {
+    // 143 waits fit into the day, up to second 85,800, and 599 seconds are left over.
+    let day: String = (1..=143).map(|n| format!("below {} ", 600 * n)).collect();
+    clocked("9 110", &[(&day, "0 0 0 9 110 143")]);
+    let longer = day + "below 86399";
+    clocked("9 110", &[(&longer, "1 85800 1 9 110 143")]);
+    // Lists may be far longer than a day has seconds.
+    let rounds = "above below ".repeat(100_000);
+    clocked("90 110", &[(&rounds, "1 0 1 90 110 0")]);
+}
+
+#[test]
+fn clock_refuses_the_band() {
+    // Before any word is looked at, also a faulty first one.
+    let days = [("", "refused 9 0"), ("above x50000000", "refused 9 0")];
+    for band in ["90 90", "110 90", "0 110", "90 1000001", "0 0"] {
+        clocked(band, &days);
+    }
+    // 90 and 110 with a bit above the 32nd; the largest number of 64.
+    clocked("4294967386 4294967406", &days);
+    clocked("90 18446744073709551615", &days);
+    clocked("1 1000000", &[("", "0 0 0 1 1000000 0")]);
+    clocked("999999 1000000", &[("", "0 0 0 999999 1000000 0")]);
+}
+
+#[test]
+fn clock_refuses_a_widening() {
+    clocked(
+        "90 909092",
+        &[
+            // 1,000,001.2 is off the grid, at the second and not at the round before it.
+            ("above 600", "refused 11 1"),
+            ("0 above 300 599 inside above 1199", "refused 11 6"),
+            // Nothing is widened yet, or ever, or it is the other side.
+            ("above 599", "1 0 0 90 909092 0"),
+            ("above 599 inside 600", "0 0 0 90 909092 0"),
+            ("above below 600", "0 0 0 81 909092 1"),
+            ("below 600 above 1200", "refused 11 3"),
+            // The first fault counts, wherever the others are.
+            ("above 600 x50000000", "refused 11 1"),
+            ("above x50000000 600", "refused 13 1"),
+            ("above 500 400 1100", "refused 14 2"),
+            // No second of the day: the widening is not tried.
+            ("above 86400", "refused 13 1"),
+        ],
+    );
+    // 1,000,000.1 is rounded down onto the grid, and the next widening leaves it.
+    clocked(
+        "90 909091",
+        &[
+            ("above 600", "0 0 0 90 1000000 1"),
+            ("above 600 above 1200", "refused 11 3"),
+            ("above 600 below 1200", "0 0 0 81 1000000 2"),
+        ],
+    );
+}
+
+#[test]
+fn clock_refuses_words() {
+    for kind in [0, 5, 6, 7, 8, 9, 10, 11, 12, 13, 14, 15] {
+        clocked("90 110", &[(&format!("x{kind:x}0000000"), "refused 13 0")]);
+    }
+    clocked(
+        "90 110",
+        &[
+            // One second past the day's last, and the largest value.
+            ("86400", "refused 13 0"),
+            ("x1fffffff", "refused 13 0"),
+            // Rounds with a value.
+            ("x20000001", "refused 13 0"),
+            ("0 x30000001", "refused 13 1"),
+            ("0 above x40000001", "refused 13 2"),
+            ("0 above 600 x28000000", "refused 13 3"),
+            // Short words are filled up with zeros, so that these are of kind 0.
+            ("0 x0", "refused 13 1"),
+            ("0 x258", "refused 13 1"),
+            // Of two faults the earlier one.
+            ("100 x50000000 99", "refused 13 1"),
+            ("100 99 x50000000", "refused 14 1"),
+        ],
+    );
+}
+
+#[test]
+fn clock_refuses_to_run_back() {
+    clocked(
+        "90 110",
+        &[
+            ("100 99", "refused 14 1"),
+            ("100 100", "0 0 0 90 110 0"),
+            ("86399 0", "refused 14 1"),
+            // Below the second before it, though not below the phase's start.
+            ("100 above 300 200", "refused 14 3"),
+            // The second before it lies before the phase, or in one that is over.
+            ("100 above 99", "refused 14 2"),
+            ("100 above inside 99", "refused 14 3"),
+            ("100 above 700 699", "refused 14 3"),
+            ("100 above 700 below inside above 699", "refused 14 6"),
+            // A phase from before any second does not bind the first one.
+            ("above 0", "1 0 0 90 110 0"),
+        ],
+    );
+}
+
+#[test]
+fn clock_lines() {
+    let ended = "waiting 90 110 10000000 20000000 10000258";
+    assert_eq!(answer_line(ended), "0 0 0 90 121 1");
+    let lines = [
+        "waiting",
+        "waiting 90",
+        "waiting 90 110 ",
+        "waiting 90  110",
+        "waiting 5a 110",
+        "waiting -90 110",
+        "waiting 90 18446744073709551616",
+        "waiting 90 110 2000000g",
+        "waiting 90 110 020000000",
+    ];
+    for line in lines {
+        assert_eq!(answer_line(line), "unreadable", "{line}");
+    }
+}
+
+#[test]
+fn random_days_reach_all() {
+    let mut random = Random::new(7);
+    let mut missing = vec![
+        "0 ",
+        "1 ",
+        "refused 9 0",
+        "refused 11",
+        "refused 13",
+        "refused 14",
+    ];
+    for _ in 0..3_000 {
+        let line = line(&mut random, Kind::Waiting);
+        assert!(line.len() <= 4_096);
+        let answer = answer_line(&line);
+        assert_ne!(answer, "unreadable");
+        missing.retain(|start| !answer.starts_with(start));
+    }
+    assert!(missing.is_empty(), "{missing:?}");
 }

@@ -1,5 +1,5 @@
-//! A second implementation of the opening auction of document 01, to compare with: a literal way and a fast one, and random
-//! sheets and arguments.
+//! A second implementation of the opening auction of document 01, to compare with: a literal way and a fast one, the band
+//! and the waiting clock, and random sheets and arguments.
 
 pub mod agree;
 pub mod answer;
@@ -10,6 +10,7 @@ pub mod calls;
 mod cases;
 pub mod chains;
 pub mod damage;
+pub mod days;
 pub mod fast;
 pub mod lines;
 pub mod literal;
@@ -17,3 +18,4 @@ pub mod random;
 pub mod refusal;
 pub mod shapes;
 pub mod sheet;
+pub mod waiting;

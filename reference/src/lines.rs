@@ -1,7 +1,9 @@
 //! Random lines of the calls' protocol.
 
 use crate::answer::{hexadecimal, space_of_opening, space_of_round};
-use crate::arguments::{indicative, large_sheet, next, order_for, price_for, space_for, widening};
+use crate::arguments::{
+    indicative, large_sheet, next, order_for, price_for, space_for, waiting, widening,
+};
 use crate::damage::damage;
 use crate::random::Random;
 use crate::shapes::{random_sheet, Sizes};
@@ -16,6 +18,7 @@ pub enum Kind {
     Opening,
     Band,
     Small,
+    Waiting,
 }
 
 impl Kind {
@@ -28,6 +31,7 @@ impl Kind {
             "opening" => Some(Kind::Opening),
             "band" => Some(Kind::Band),
             "small" => Some(Kind::Small),
+            "waiting" => Some(Kind::Waiting),
             _ => None,
         }
     }
@@ -38,6 +42,7 @@ pub fn line(random: &mut Random, kind: Kind) -> String {
     match kind {
         Kind::Band => band_line(random),
         Kind::Small => small_line(random),
+        Kind::Waiting => waiting_line(random),
         _ => sheet_line(random, kind),
     }
 }
@@ -103,7 +108,7 @@ pub fn joined(call: &str, number: Option<u64>, words: &[u32]) -> String {
     line
 }
 
-/// One of the three calls without a sheet.
+/// One of the three calls that take numbers alone.
 fn band_line(random: &mut Random) -> String {
     match random.below(3) {
         0 => {
@@ -124,4 +129,11 @@ fn band_line(random: &mut Random) -> String {
             format!("widen {lower} {upper} {side}")
         }
     }
+}
+
+/// The waiting clock over a random day.
+fn waiting_line(random: &mut Random) -> String {
+    let asked = waiting(random);
+    let (lower, upper) = asked.band;
+    joined(&format!("waiting {lower}"), Some(upper), &asked.words)
 }

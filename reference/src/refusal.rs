@@ -1,10 +1,11 @@
 //! The refusals by number (01 'Where a refusal arises').
 
-/// `order` is the faulty order's number in refusals 5–8 and 0 in all others.
+/// `place` says where the fault lies, counted from 0: at which order in refusals 5–8, at which word of its list in all that
+/// the waiting clock refuses word by word (11, 13, 14). It is 0 in all others.
 #[derive(Clone, Copy, Debug, PartialEq, Eq)]
 pub struct Refusal {
     pub number: u32,
-    pub order: usize,
+    pub place: usize,
 }
 
 /// Too short for a heading.
@@ -33,14 +34,18 @@ pub const ORDER_LIMIT: u32 = 6;
 pub const ORDER_QUANTITY: u32 = 7;
 /// More than 1,000,000 pieces ignored, or any by an order that is no Stepper.
 pub const ORDER_IGNORED: u32 = 8;
+/// A word that is neither a second of the day nor a bare round.
+pub const CLOCK_WORD: u32 = 13;
+/// A clock that runs backwards.
+pub const CLOCK_BACK: u32 = 14;
 
 impl Refusal {
     const fn new(number: u32) -> Refusal {
-        Refusal { number, order: 0 }
+        Refusal { number, place: 0 }
     }
 
     /// The refusal as it is printed (01 'Listing').
     pub fn line(self) -> String {
-        format!("refused {} {}", self.number, self.order)
+        format!("refused {} {}", self.number, self.place)
     }
 }

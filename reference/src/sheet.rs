@@ -134,11 +134,11 @@ pub fn word(kind: u32, value: u32) -> u32 {
     kind << 28 | value
 }
 
-fn kind(word: u32) -> u32 {
+pub fn kind(word: u32) -> u32 {
     word >> 28
 }
 
-fn value(word: u32) -> u32 {
+pub fn value(word: u32) -> u32 {
     word & 0x0fff_ffff
 }
 
@@ -148,7 +148,7 @@ pub fn read(words: &[u32], grid: Grid) -> Result<Sheet, Refusal> {
     for (number, three) in words[HEADING_WORDS..].chunks(ORDER_WORDS).enumerate() {
         let order = read_order(three, grid).map_err(|fault| Refusal {
             number: fault,
-            order: number,
+            place: number,
         })?;
         sheet.orders.push(order);
     }

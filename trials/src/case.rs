@@ -3,7 +3,8 @@
 
 use reference::answer::{space_of_opening, space_of_round};
 use reference::arguments::{
-    indicative, next, order_for, price_for, quick_sheet, space_for, widening, Indicative,
+    indicative, next, order_for, price_for, quick_sheet, space_for, waiting, widening, Indicative,
+    Waited,
 };
 use reference::damage::damage;
 use reference::random::Random;
@@ -18,6 +19,7 @@ pub struct Case {
     pub indicative: Indicative,
     pub next: (u64, u64),
     pub widening: ((u64, u64), u64),
+    pub waiting: Waited,
 }
 
 /// In sixteen cases, so many have a damaged sheet, and so many arguments that are most likely refused.
@@ -44,6 +46,7 @@ impl Case {
             indicative: indicative(random),
             next: next(random),
             widening: widening(random),
+            waiting: waiting(random),
         }
     }
 }

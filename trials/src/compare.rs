@@ -8,6 +8,7 @@ use crate::tally::{Call, Tally};
 use reference::answer::{
     check_space, hexadecimal, space_of_opening, space_of_round, Opening, Round,
 };
+use reference::arguments::Waited;
 use reference::fast::opening::{first_round, opening};
 use reference::lines::joined;
 use reference::refusal::Refusal;
@@ -144,6 +145,7 @@ pub fn compare(case: &Case, lent: &mut Lent, tally: &mut Tally) -> Compared {
     compare_asking(&asked, &reworked, tally)?;
     compare_writing(&asked, &reworked, lent, tally)?;
     compare_bands(&asked, tally)?;
+    compare_waiting(&case.waiting, tally)?;
     tally.sheets += 1;
     Ok(())
 }
@@ -211,5 +213,26 @@ fn compare_bands(asked: &Asked, tally: &mut Tally) -> Compared {
     let band = unsafe { raw::auction_widened_band(narrow(lower), narrow(upper), narrow(side)) };
     asked.same(|| format!("widen {lower} {upper} {side}"), band, due)?;
     tally.met(Call::WidenedBand, due.refusal);
+    Ok(())
+}
+
+/// The waiting clock, on a copy of its list.
+fn compare_waiting(asked: &Waited, tally: &mut Tally) -> Compared {
+    let (lower, upper) = asked.band;
+    let given = asked.words.clone();
+    let due = expected::waiting(asked);
+    let waiting = unsafe {
+        raw::auction_waiting_clock(narrow(lower), narrow(upper), given.as_ptr(), given.len())
+    };
+    if waiting != due || given != asked.words {
+        let line = joined(&format!("waiting {lower}"), Some(upper), &asked.words);
+        let left = hexadecimal(&given, " ");
+        let what = format!("the library\n  {waiting:?}\nthe reference implementation\n  {due:?}\nthe list afterwards\n  {left}");
+        return Err(Difference { line, what });
+    }
+    tally.met(Call::WaitingClock, due.refusal);
+    if due.refusal == 0 {
+        tally.waited(given.len(), due.phase, due.due);
+    }
     Ok(())
 }

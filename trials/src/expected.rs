@@ -14,7 +14,7 @@ const GRID: Grid = Grid::DOCUMENT;
 fn fault<T>(answer: &Result<T, Refusal>) -> (u32, usize) {
     match answer {
         Ok(_) => (0, 0),
-        Err(refusal) => (refusal.number, refusal.order),
+        Err(refusal) => (refusal.number, refusal.place),
     }
 }
 
@@ -82,4 +82,22 @@ pub fn next((code, indicative): (u64, u64)) -> raw::BandReply {
 
 pub fn widened(((lower, upper), side): ((u64, u64), u64)) -> raw::BandReply {
     band(widening(lower, upper, side))
+}
+
+pub fn waiting(asked: &reference::arguments::Waited) -> raw::WaitingReply {
+    let (lower, upper) = asked.band;
+    let answer = reference::waiting::waiting(lower, upper, &asked.words);
+    let (refusal, place) = fault(&answer);
+    let phase = answer.ok().and_then(|waiting| waiting.phase);
+    let (lower, upper) = answer.map_or((0, 0), |waiting| (waiting.band.0 .0, waiting.band.1 .0));
+    raw::WaitingReply {
+        refusal,
+        place,
+        phase: u32::from(phase.is_some()),
+        start: phase.map_or(0, |phase| phase.start),
+        side: phase.map_or(0, |phase| phase.side as u32),
+        lower,
+        upper,
+        due: answer.map_or(0, |waiting| waiting.openings_due),
+    }
 }

@@ -13,10 +13,11 @@ pub enum Call {
     IndicativePrice,
     NextBand,
     WidenedBand,
+    WaitingClock,
 }
 
 /// Their names, in the same order.
-const CALLS: [&str; 8] = [
+const CALLS: [&str; 9] = [
     "check",
     "stepper_limit",
     "curves_at",
@@ -25,13 +26,17 @@ const CALLS: [&str; 8] = [
     "indicative_price",
     "next_band",
     "widened_band",
+    "waiting_clock",
 ];
+
+/// 0, and the numbers of the refusals.
+const NUMBERS: usize = 15;
 
 #[derive(Default)]
 pub struct Tally {
     pub sheets: u64,
     /// For each call, how often it was refused with each number; under 0, how often it answered.
-    calls: [[u64; 12]; 8],
+    calls: [[u64; NUMBERS]; 9],
     /// Openings of 1, 2, 3 to 9, 10 to 59, 60 rounds and more.
     rounds: [u64; 5],
     most_rounds: usize,
@@ -44,6 +49,10 @@ pub struct Tally {
     with_all_or_none: u64,
     /// Openings whose first round trades.
     trading: u64,
+    /// Waiting lists that were followed: to a phase that is on, with 0, 1, 2 to 9, 10 to 142 and 143 openings due.
+    waiting: u64,
+    due: [u64; 5],
+    longest_list: usize,
 }
 
 impl Tally {
@@ -74,6 +83,19 @@ impl Tally {
         }
     }
 
+    /// A waiting list that was not refused.
+    pub fn waited(&mut self, words: usize, phase: u32, due: u32) {
+        let bucket = match due {
+            0 | 1 => due as usize,
+            2..=9 => 2,
+            10..=142 => 3,
+            _ => 4,
+        };
+        self.due[bucket] += 1;
+        self.waiting += u64::from(phase);
+        self.longest_list = self.longest_list.max(words);
+    }
+
     pub fn join(&mut self, other: &Tally) {
         let sum = |own: &mut [u64], others: &[u64]| {
             own.iter_mut().zip(others).for_each(|(own, n)| *own += n);
@@ -84,6 +106,9 @@ impl Tally {
         sum(&mut self.rounds, &other.rounds);
         sum(&mut self.situations, &other.situations);
         sum(&mut self.endings, &other.endings);
+        sum(&mut self.due, &other.due);
+        self.waiting += other.waiting;
+        self.longest_list = self.longest_list.max(other.longest_list);
         self.sheets += other.sheets;
         self.most_rounds = self.most_rounds.max(other.most_rounds);
         self.large += other.large;
@@ -112,11 +137,17 @@ impl Tally {
         println!("most rounds: {}", self.most_rounds);
         println!("rounds of situations 0 to 4: {:?}", self.situations);
         println!("endings 0 to 2: {:?}", self.endings);
+        let [none, one, few, many, most] = self.due;
+        println!(
+            "waiting lists to a phase that is on: {}, of most words: {}",
+            self.waiting, self.longest_list
+        );
+        println!("openings due 0: {none}, 1: {one}, 2 to 9: {few}, 10 to 142: {many}, 143: {most}");
     }
 }
 
 /// How often a call answered, and the refusals that it met by their numbers.
-fn print_call(name: &str, counts: &[u64; 12]) {
+fn print_call(name: &str, counts: &[u64; NUMBERS]) {
     let met = counts.iter().enumerate().skip(1).filter(|(_, n)| **n > 0);
     let refused: Vec<String> = met.map(|(number, n)| format!("{number}: {n}")).collect();
     println!(

@@ -16,7 +16,7 @@ use rules::Refusal;
 use rules::on_grid;
 
 // Whether two numbers are bounds of a band.
-fn band_stands(lower: u32, upper: u32) -> bool
+pub fn band_stands(lower: u32, upper: u32) -> bool
     ensures { λ r. ⌜ r ≡ bandStands lower upper ⌝ }
 {
     on_grid(lower) & on_grid(upper) & (lower < upper)

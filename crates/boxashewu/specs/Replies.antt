@@ -4,6 +4,7 @@ use Prim.Native.Nat.{ℕ}
 use lib.ListN.{length, getD}
 use Rattle.rules.specs.Answers.{Answer, gives, refuses}
 use Rattle.rules.specs.Calls.{wordsGiven}
+use Rattle.boxashewu.specs.declared.clock.WaitingReply.{WaitingReply}
 use Rattle.boxashewu.specs.declared.replies.BandReply.{BandReply}
 use Rattle.boxashewu.specs.declared.replies.CurvesReply.{CurvesReply}
 use Rattle.boxashewu.specs.declared.replies.PriceReply.{PriceReply}
@@ -15,10 +16,10 @@ abbrev pub refusalIn : Answer → ℕ
 refusalIn (gives vs) = 0
 refusalIn (refuses number place) = number
 
--- [10.7] The place of the refusal, the order at fault; 0 where the call answers.
-abbrev pub orderIn : Answer → ℕ
-orderIn (gives vs) = 0
-orderIn (refuses number place) = place
+-- [10.7] The place of the refusal, the order or the word at fault; 0 where the call answers.
+abbrev pub placeIn : Answer → ℕ
+placeIn (gives vs) = 0
+placeIn (refuses number place) = place
 
 -- [10.7] The number that an answer gives at place i; 0 where it gives none there.
 abbrev pub givenAt : Answer → ℕ → ℕ
@@ -26,21 +27,34 @@ givenAt a i = getD (wordsGiven a) i 0
 
 -- [10.7] A sheet that is checked.
 abbrev pub sheetReply : Answer → SheetReply
-sheetReply a = record { refusal = refusalIn a; order = orderIn a }
+sheetReply a = record { refusal = refusalIn a; order = placeIn a }
 
 -- [10.7] A price.
 abbrev pub priceReply : Answer → PriceReply
-priceReply a = record { refusal = refusalIn a; order = orderIn a; price = givenAt a 0 }
+priceReply a = record { refusal = refusalIn a; order = placeIn a; price = givenAt a 0 }
 
 -- [10.7] Demand, supply and volume.
 abbrev pub curvesReply : Answer → CurvesReply
 curvesReply a =
-    record { refusal = refusalIn a; order = orderIn a; demand = givenAt a 0; supply = givenAt a 1; volume = givenAt a 2 }
+    record { refusal = refusalIn a; order = placeIn a; demand = givenAt a 0; supply = givenAt a 1; volume = givenAt a 2 }
 
 -- [10.7] How many words are given; they stand in the lent space.
 abbrev pub spaceReply : Answer → SpaceReply
-spaceReply a = record { refusal = refusalIn a; order = orderIn a; count = length (wordsGiven a) }
+spaceReply a = record { refusal = refusalIn a; order = placeIn a; count = length (wordsGiven a) }
 
 -- [10.7] The lower bound, then the upper.
 abbrev pub bandReply : Answer → BandReply
-bandReply a = record { refusal = refusalIn a; order = orderIn a; lower = givenAt a 0; upper = givenAt a 1 }
+bandReply a = record { refusal = refusalIn a; order = placeIn a; lower = givenAt a 0; upper = givenAt a 1 }
+
+-- [10.7] The phase with its start and its side, the lower bound, the upper, and the openings due.
+abbrev pub waitingReply : Answer → WaitingReply
+waitingReply a = record {
+  refusal = refusalIn a;
+  place = placeIn a;
+  phase = givenAt a 0;
+  start = givenAt a 1;
+  side = givenAt a 2;
+  lower = givenAt a 3;
+  upper = givenAt a 4;
+  due = givenAt a 5;
+}

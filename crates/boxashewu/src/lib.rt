@@ -1,12 +1,15 @@
 // Clause 10.7: the calls for programs in C and in Rust. Numbers and lists of words go in, a record of plain
 // numbers comes out; include/boxashewu.h says what a caller owes.
+mod clock;
 mod replies;
 
 ghost use mathlib.Core.Path.{_≡_};
 ghost use lib.ListN.{length};
 ghost use Rattle.claims.specs.Calls.{FirstRound, Opened};
-ghost use Rattle.rules.specs.Calls.{answer, check, stepperLimit, curvesAt, firstRound, opening, indicative, next, widen};
-ghost use Rattle.boxashewu.specs.Replies.{sheetReply, priceReply, curvesReply, spaceReply, bandReply};
+ghost use Rattle.rules.specs.Calls.{answer, check, stepperLimit, curvesAt, firstRound, opening, indicative, next, widen, waiting};
+ghost use Rattle.boxashewu.specs.Replies.{sheetReply, priceReply, curvesReply, spaceReply, bandReply, waitingReply};
+use clock::WaitingReply;
+use clock::waiting_reply;
 use replies::BandReply;
 use replies::CurvesReply;
 use replies::PriceReply;
@@ -89,4 +92,12 @@ pub extern "C" fn auction_widened_band(lower: u32, upper: u32, side: u32) -> Ban
     ensures { λ r. ⌜ r ≡ bandReply (answer (widen lower upper side)) ⌝ }
 {
     band_reply(band::widened_band(lower, upper, side))
+}
+
+// The waiting clock: follows the words of a waiting list from a starting band on.
+#[no_mangle]
+pub extern "C" fn auction_waiting_clock(lower: u32, upper: u32, words: &[u32]) -> WaitingReply
+    ensures { λ r. ⌜ r ≡ waitingReply (answer (waiting lower upper (now (words .entry)))) ⌝ }
+{
+    waiting_reply(waiting::waiting_clock(lower, upper, words))
 }

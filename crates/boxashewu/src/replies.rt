@@ -11,10 +11,10 @@ use rules::CurvesAnswer;
 use rules::PriceAnswer;
 use rules::SpaceAnswer;
 
-// What stands for the refusal and for its order where a call answers.
-const ANSWERED: u32 = 0;
+// What stands for the refusal and for its place where a call answers.
+pub(crate) const ANSWERED: u32 = 0;
 
-const NO_ORDER: usize = 0;
+pub(crate) const NO_PLACE: usize = 0;
 
 #[repr(C)]
 pub struct SheetReply {
@@ -59,7 +59,7 @@ pub(crate) fn sheet_reply(answer: Checked) -> SheetReply
     match answer {
         Checked::Accepted => SheetReply {
             refusal: ANSWERED,
-            order: NO_ORDER,
+            order: NO_PLACE,
         },
         Checked::Refused(refusal) => SheetReply {
             refusal: refusal.number(),
@@ -74,7 +74,7 @@ pub(crate) fn price_reply(answer: PriceAnswer) -> PriceReply
     match answer {
         PriceAnswer::At(price) => PriceReply {
             refusal: ANSWERED,
-            order: NO_ORDER,
+            order: NO_PLACE,
             price: price.0,
         },
         PriceAnswer::Refused(refusal) => PriceReply {
@@ -95,7 +95,7 @@ pub(crate) fn curves_reply(answer: CurvesAnswer) -> CurvesReply
             volume,
         } => CurvesReply {
             refusal: ANSWERED,
-            order: NO_ORDER,
+            order: NO_PLACE,
             demand: demand.0,
             supply: supply.0,
             volume: volume.0,
@@ -116,7 +116,7 @@ pub(crate) fn space_reply(answer: SpaceAnswer) -> SpaceReply
     match answer {
         SpaceAnswer::Written(count) => SpaceReply {
             refusal: ANSWERED,
-            order: NO_ORDER,
+            order: NO_PLACE,
             count,
         },
         SpaceAnswer::Refused(refusal) => SpaceReply {
@@ -133,7 +133,7 @@ pub(crate) fn band_reply(answer: BandAnswer) -> BandReply
     match answer {
         BandAnswer::Bounds { lower, upper } => BandReply {
             refusal: ANSWERED,
-            order: NO_ORDER,
+            order: NO_PLACE,
             lower: lower.0,
             upper: upper.0,
         },

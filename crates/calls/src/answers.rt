@@ -2,23 +2,27 @@
 use crate::fields::Fields;
 use crate::fields::Number;
 use crate::fields::field_end;
+use crate::fields::first_number;
 use crate::fields::read_fields;
-use crate::fields::spelled;
 use crate::space::Writes;
 use crate::space::print_written;
 use rules::BandAnswer;
 use rules::Checked;
+use rules::Clock;
 use rules::CurvesAnswer;
+use rules::Phase;
 use rules::PriceAnswer;
 use rules::Refusal;
+use rules::WaitingAnswer;
 
-// A call on a sheet, with the number that stands before its words.
-enum SheetCall {
+// A call on a list of words, with the numbers that stand before them. All but the last are on a sheet.
+enum ListCall {
     Check,
     Stepper(u64),
     Curves(u64),
     Round(u64),
     Opening(u64),
+    Waiting(u64, u64),
 }
 
 pub(crate) fn print_refusal(refusal: Refusal) {
@@ -82,6 +86,39 @@ fn print_band(answer: BandAnswer) {
     }
 }
 
+fn print_phase(phase: Phase) {
+    match phase {
+        Phase::Idle => {
+            io::write_all(1, b"0 0 0 ");
+        }
+        Phase::Waiting { start, side } => {
+            io::write_all(1, b"1 ");
+            io::print_decimal(1, start as u64);
+            io::write_all(1, b" ");
+            io::print_decimal(1, side as u64);
+            io::write_all(1, b" ");
+        }
+    }
+}
+
+fn print_clock(clock: Clock) {
+    let phase = clock.phase;
+    print_phase(phase);
+    io::print_decimal(1, clock.lower.0 as u64);
+    io::write_all(1, b" ");
+    io::print_decimal(1, clock.upper.0 as u64);
+    io::write_all(1, b" ");
+    io::print_decimal(1, clock.due as u64);
+    io::write_all(1, b"\n");
+}
+
+fn print_waiting(answer: WaitingAnswer) {
+    match answer {
+        WaitingAnswer::Stands(clock) => print_clock(clock),
+        WaitingAnswer::Refused(refusal) => print_refusal(refusal),
+    }
+}
+
 // The number as an argument of 32 bits. A larger one becomes the largest, which every call refuses as it
 // would the number itself.
 fn argument(value: u64) -> u32 {
@@ -92,18 +129,23 @@ fn argument(value: u64) -> u32 {
     }
 }
 
-fn call_sheet(call: SheetCall, words: &[u32]) {
+fn call_list(call: ListCall, words: &[u32]) {
     match call {
-        SheetCall::Check => print_check(sheet::check(words)),
-        SheetCall::Stepper(order) => print_price(auction::stepper_limit(words, order as usize)),
-        SheetCall::Curves(price) => print_curves(auction::curves_at(words, argument(price))),
-        SheetCall::Round(space) => print_written(Writes::FirstRound, space, words),
-        SheetCall::Opening(space) => print_written(Writes::Opening, space, words),
+        ListCall::Check => print_check(sheet::check(words)),
+        ListCall::Stepper(order) => print_price(auction::stepper_limit(words, order as usize)),
+        ListCall::Curves(price) => print_curves(auction::curves_at(words, argument(price))),
+        ListCall::Round(space) => print_written(Writes::FirstRound, space, words),
+        ListCall::Opening(space) => print_written(Writes::Opening, space, words),
+        ListCall::Waiting(lower, upper) => print_waiting(waiting::waiting_clock(
+            argument(lower),
+            argument(upper),
+            words,
+        )),
     }
 }
 
-// The words of a sheet, from fields of at most 32 bits.
-fn answer_words(call: SheetCall, fields: &[u64; 2048], count: usize) {
+// The words of a list, from fields of at most 32 bits.
+fn answer_words(call: ListCall, fields: &[u64; 2048], count: usize) {
     if 2048 < count {
         return;
     }
@@ -113,10 +155,10 @@ fn answer_words(call: SheetCall, fields: &[u64; 2048], count: usize) {
         words[i] = argument(fields[i]);
         i += 1;
     }
-    call_sheet(call, &words[..count]);
+    call_list(call, &words[..count]);
 }
 
-fn answer_sheet(call: SheetCall, text: &[u8]) {
+fn answer_list(call: ListCall, text: &[u8]) {
     let mut fields = [0u64; 2048];
     match read_fields(text, true, &mut fields) {
         Fields::Count(count) => answer_words(call, &fields, count),
@@ -132,24 +174,44 @@ enum Numbered {
     Opening,
 }
 
-fn with_number(call: Numbered, number: u64) -> SheetCall {
+fn with_number(call: Numbered, number: u64) -> ListCall {
     match call {
-        Numbered::Stepper => SheetCall::Stepper(number),
-        Numbered::Curves => SheetCall::Curves(number),
-        Numbered::Round => SheetCall::Round(number),
-        Numbered::Opening => SheetCall::Opening(number),
+        Numbered::Stepper => ListCall::Stepper(number),
+        Numbered::Curves => ListCall::Curves(number),
+        Numbered::Round => ListCall::Round(number),
+        Numbered::Opening => ListCall::Opening(number),
     }
 }
 
 // The calls on a sheet that have a number before its words.
 fn answer_numbered(call: Numbered, text: &[u8]) {
-    if text.len() == 0 {
-        unreadable();
-        return;
+    let first = first_number(text);
+    let number = first.number;
+    let end = first.end;
+    match number {
+        Number::Is(number) => answer_list(with_number(call, number), &text[end..]),
+        Number::Unreadable => unreadable(),
     }
-    let end = field_end(text, 1);
-    match spelled(&text[1..end], false) {
-        Number::Is(number) => answer_sheet(with_number(call, number), &text[end..]),
+}
+
+// The words of a waiting list behind the upper bound of its starting band.
+fn answer_waiting_from(lower: u64, text: &[u8]) {
+    let first = first_number(text);
+    let number = first.number;
+    let end = first.end;
+    match number {
+        Number::Is(upper) => answer_list(ListCall::Waiting(lower, upper), &text[end..]),
+        Number::Unreadable => unreadable(),
+    }
+}
+
+// The waiting clock, which has two numbers before its words.
+fn answer_waiting(text: &[u8]) {
+    let first = first_number(text);
+    let number = first.number;
+    let end = first.end;
+    match number {
+        Number::Is(lower) => answer_waiting_from(lower, &text[end..]),
         Number::Unreadable => unreadable(),
     }
 }
@@ -191,7 +253,7 @@ fn answer_band(name: &[u8], text: &[u8]) {
 
 fn answer_call(name: &[u8], text: &[u8]) {
     if check::same(name, b"check") {
-        answer_sheet(SheetCall::Check, text);
+        answer_list(ListCall::Check, text);
         return;
     }
     if check::same(name, b"stepper") {
@@ -208,6 +270,10 @@ fn answer_call(name: &[u8], text: &[u8]) {
     }
     if check::same(name, b"opening") {
         answer_numbered(Numbered::Opening, text);
+        return;
+    }
+    if check::same(name, b"waiting") {
+        answer_waiting(text);
         return;
     }
     answer_band(name, text);

@@ -94,6 +94,26 @@ pub(crate) fn field_end(text: &[u8], from: usize) -> usize
     at
 }
 
+// A decimal number that stands first in a text, after a space, and the place behind it.
+pub(crate) struct First {
+    pub number: Number,
+    pub end: usize,
+}
+
+pub(crate) fn first_number(text: &[u8]) -> First
+    ensures { λ r. ⌜ r .end ≤ length (now (text .entry)) ⌝ }
+{
+    if text.len() == 0 {
+        return First {
+            number: Number::Unreadable,
+            end: 0,
+        };
+    }
+    let end = field_end(text, 1);
+    let number = spelled(&text[1..end], false);
+    First { number, end }
+}
+
 // Reads the fields of a text in which each stands after a space.
 pub(crate) fn read_fields(text: &[u8], hex: bool, fields: &mut [u64; 2048]) -> Fields {
     let mut count: usize = 0;

@@ -30,13 +30,20 @@ pub(crate) fn help() {
     say(
         b"  widen D H SIDE                         the band with its upper (0) or lower (1) bound widened",
     );
-    say(b"");
-    say(b"The words of a sheet are hexadecimal, other numbers decimal, with single spaces between");
     say(
-        b"them. An answer is accepted, the numbers that the call gives, or refused with the number",
+        b"  waiting D H WORD ..                    phase, start, side, lower and upper bound, openings due",
     );
-    say(b"of the refusal and of the order at fault, or 0. A line that starts with # is printed as");
-    say(b"it stands, an empty line has no answer, and one that makes no sense is unreadable.");
+    say(b"");
+    say(
+        b"Words are hexadecimal, other numbers decimal, with single spaces between them. An answer",
+    );
+    say(
+        b"is accepted, the numbers that the call gives, or refused with the number of the refusal and",
+    );
+    say(
+        b"of the order or word at fault, or 0. A line that starts with # is printed as it stands, an",
+    );
+    say(b"empty line has no answer, and one that makes no sense is unreadable.");
     say(b"");
     say(b"docs/RULES.md has the rules and the refusals.");
 }

@@ -23,3 +23,4 @@ pub mod Opening
 pub mod Demand3Holds
 pub mod NothingOpen
 pub mod CallsHold
+pub mod Waiting

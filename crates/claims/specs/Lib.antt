@@ -4,8 +4,10 @@ pub mod Fills
 pub mod Price
 pub mod Demand3
 pub mod Calls
+pub mod Waiting
 -- Words in which the laws and the engine's promises speak; they claim nothing.
 pub mod Orders
 pub mod Places
 pub mod Crossing
 pub mod Fits
+pub mod Clock

@@ -125,7 +125,7 @@ sound-orders ws (suc n) p k h = go (sound-orders ws n (clear-left _ _ p) k) (dec
 pub accepted-sound : (ws : List ℕ) → AcceptedSheet ws → SoundSheet ws
 unfolding checkSheet sheetChecks ordersOf
 accepted-sound ws e =
-    let p = given-clear (headingChecks ws ++ ordersChecks ws (headingOf ws .count)) [] e in
+    let p = given-clear (headingChecks ws ++ ordersChecks ws (headingOf ws .count)) (gives []) e in
     let h = heading-passes ws (clear-left _ _ p) in
     let rest = clear-right (headingChecks ws) (ordersChecks ws (headingOf ws .count)) p in
     record {
@@ -140,7 +140,7 @@ accepted-sound ws e =
 pub own-rows : (ws : List ℕ) → AcceptedSheet ws → (own : List Check) (vs : List ℕ) → onSheet ws own vs ≡ downwards own (gives vs)
 unfolding checkSheet
 own-rows ws accepted own vs =
-    let clear : Clear (sheetChecks ws) = given-clear (sheetChecks ws) [] accepted in
+    let clear : Clear (sheetChecks ws) = given-clear (sheetChecks ws) (gives []) accepted in
     downwards-append (sheetChecks ws) own (gives vs) ∙ clear .hands-on _
 
 -- a refused sheet refuses the call, whatever its rows

@@ -13,7 +13,7 @@ use Rattle.rules.specs.Answers.{Answer, gives, refuses, downwards}
 use Rattle.rules.specs.AuctionPrice.{level, uncrossed, auctionBy}
 use Rattle.rules.specs.Band.{bandStands, indicativePrice, nextUpper, nextLower, nextBandFor, percentOf, nextBand, widenedUpper, widenedLower, widenedFor, widenedBand}
 use Rattle.rules.specs.Calls.{answerBy, answer, wordsGiven}
-use Rattle.rules.specs.Cases.{Case, AllHold, documentCases, furtherCases, listing, listingResult, ListingSaid, AllPrint, printings}
+use Rattle.rules.specs.Cases.{Case, AllHold, documentCases, furtherCases, waitingCases, listing, listingResult, ListingSaid, AllPrint, printings}
 use Rattle.rules.specs.Fills.{eligible, firstOf, total, offered, ahead, share, reaches, largestTotal, fillsOf}
 use Rattle.rules.specs.Grid.{onGrid, movedInto}
 use Rattle.rules.specs.Limits.{standing, piecesAt, enteredLimit, entered, stepped, limitInForce, standingBy}
@@ -22,6 +22,7 @@ use Rattle.rules.specs.Lists.{listed, sumTo, everyTo, largestTo}
 use Rattle.rules.specs.Opening.{settled, firstStart, after, goesOn, endingAfter, roundsFrom, roundWords, roundsWords, endingOf, resultWords, openingBy, openingWords}
 use Rattle.rules.specs.Result.{roundSaid, startSaid, standingSaid}
 use Rattle.rules.specs.Sheet.{headingKinds, headingFrom, headingOf, pricesOnGrid, bandEncloses, lengthFits, orderKinds, termsAllowed, quantityAllowed, ignoredAllowed, sideOf, termsOf, orderFrom, orderAt, ordersOf, headingChecks, orderChecks, ordersChecks, sheetChecks, checkSheet}
+use Rattle.rules.specs.Waiting.{waitingWord, afterOutside, afterInside, timeIsUp, afterTime, afterSecond, afterWord, waitingChecks, followed, waitingClock}
 
 -- a test of two answers, and what it tells
 unfoldable pub sameNumbers : List ℕ → List ℕ → Bool
@@ -64,12 +65,13 @@ all-same (c ∷ cs) e =
     let t = both {a = same (quickAnswer (c .call)) (c .expected)} e in
     (quick-answer (c .call) ∙ same-answer (quickAnswer (c .call)) (c .expected) (t .0), all-same cs (t .1))
 
--- P1–P12 hold, and so do the further cases
-pub cases-hold : AllHold documentCases × AllHold furtherCases
-unfolding allSame same sameNumbers documentCases furtherCases quickAnswer quickRound limitEnds levelEnds answerBy downwards headingKinds headingFrom headingOf pricesOnGrid bandEncloses lengthFits orderKinds termsAllowed quantityAllowed ignoredAllowed sideOf termsOf orderFrom orderAt ordersOf headingChecks orderChecks ordersChecks sheetChecks checkSheet onGrid movedInto listed sumTo everyTo largestTo piecesAt enteredLimit entered stepped limitInForce standingBy level uncrossed auctionBy eligible firstOf total offered ahead share reaches largestTotal fillsOf settled firstStart after goesOn endingAfter roundsFrom roundWords roundsWords endingOf resultWords openingBy bandStands indicativePrice nextUpper nextLower nextBandFor percentOf nextBand widenedUpper widenedLower widenedFor widenedBand
+-- P1–P12 hold, and so do the further cases and those of the waiting clock
+pub cases-hold : AllHold documentCases × AllHold furtherCases × AllHold waitingCases
+unfolding allSame same sameNumbers documentCases furtherCases waitingCases quickAnswer quickRound limitEnds levelEnds answerBy downwards headingKinds headingFrom headingOf pricesOnGrid bandEncloses lengthFits orderKinds termsAllowed quantityAllowed ignoredAllowed sideOf termsOf orderFrom orderAt ordersOf headingChecks orderChecks ordersChecks sheetChecks checkSheet onGrid movedInto listed sumTo everyTo largestTo piecesAt enteredLimit entered stepped limitInForce standingBy level uncrossed auctionBy eligible firstOf total offered ahead share reaches largestTotal fillsOf settled firstStart after goesOn endingAfter roundsFrom roundWords roundsWords endingOf resultWords openingBy bandStands indicativePrice nextUpper nextLower nextBandFor percentOf nextBand widenedUpper widenedLower widenedFor widenedBand waitingWord afterOutside afterInside timeIsUp afterTime afterSecond afterWord waitingChecks followed waitingClock
 cases-hold = (
   all-same documentCases refl,
   all-same furtherCases refl,
+  all-same waitingCases refl,
 )
 
 -- what the listing's words say

@@ -58,13 +58,13 @@ pub says-refused : (cs : List Check) {n k : ℕ} → Stops cs n k → verdict cs
 says-refused cs p = p .refuses-all (gives [])
 
 -- where something was given, nothing arose
-pub given-clear : (cs : List Check) (vs : List ℕ) {ws : List ℕ} → downwards cs (gives vs) ≡ gives ws → Clear cs
+pub given-clear : (cs : List Check) (b : Answer) {ws : List ℕ} → downwards cs b ≡ gives ws → Clear cs
 unfolding downwards
-given-clear [] vs e = nothing-left
-given-clear (c ∷ cs) vs {ws} e = record { hands-on = go (c .arises) e (given-clear cs vs) }
+given-clear [] b e = nothing-left
+given-clear (c ∷ cs) b {ws} e = record { hands-on = go (c .arises) e (given-clear cs b) }
   where
-    go : (t : Bool) → cond t (refuses (c .number) (c .place)) (downwards cs (gives vs)) ≡ gives ws
-        → (downwards cs (gives vs) ≡ gives ws → Clear cs)
+    go : (t : Bool) → cond t (refuses (c .number) (c .place)) (downwards cs b) ≡ gives ws
+        → (downwards cs b ≡ gives ws → Clear cs)
         → (a : Answer) → cond t (refuses (c .number) (c .place)) (downwards cs a) ≡ a
     go true e rest a = let z : _≡_ {A = ℕ} 0 1 = cc in absurd (omega arith)
     go false e rest a = rest e .hands-on a

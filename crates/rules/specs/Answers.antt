@@ -1,7 +1,7 @@
 -- Clauses 2.1–2.5 of docs/RULES.md: what a call answers, and the numbers of the refusals. Each answer of the engine
 -- is an enum; the definitions at the end give the numbers and values of each of its cases.
 use mathlib.Core.Bool.{Bool, cond}
-use mathlib.Core.List.{List, [], _∷_}
+use mathlib.Core.List.{List, [], _∷_, _++_}
 use Prim.Native.Nat.{ℕ}
 use lib.ListN.{getD}
 use Rattle.rules.specs.Lists.{listed}
@@ -9,16 +9,23 @@ use Rattle.rules.specs.declared.BandAnswer.{BandAnswer}
 use Rattle.rules.specs.declared.BandAnswer.the-variants.{Bounds, Refused as NoBand}
 use Rattle.rules.specs.declared.Checked.{Checked}
 use Rattle.rules.specs.declared.Checked.the-variants.{Accepted, Refused}
+use Rattle.rules.specs.declared.Clock.{Clock}
 use Rattle.rules.specs.declared.CurvesAnswer.{CurvesAnswer}
 use Rattle.rules.specs.declared.CurvesAnswer.the-variants.{At as AtPrice, Refused as NoCurves}
 use Rattle.rules.specs.declared.OrderFault.{OrderFault}
 use Rattle.rules.specs.declared.OrderFault.the-variants.{Kind, Terms, Quantity, Ignored}
+use Rattle.rules.specs.declared.Phase.{Phase}
+use Rattle.rules.specs.declared.Phase.the-variants.{Idle, Waiting}
 use Rattle.rules.specs.declared.PriceAnswer.{PriceAnswer}
 use Rattle.rules.specs.declared.PriceAnswer.the-variants.{At, Refused as NoPrice}
 use Rattle.rules.specs.declared.Refusal.{Refusal}
-use Rattle.rules.specs.declared.Refusal.the-variants.{FewWords, HeadingKind, HeadingPrice, Length, Order, Argument, Band, Space, Input}
+use Rattle.rules.specs.declared.Refusal.the-variants.{FewWords, HeadingKind, HeadingPrice, Length, Order, Argument, Waiting as AtWord, Band, Space, Input}
 use Rattle.rules.specs.declared.SpaceAnswer.{SpaceAnswer}
 use Rattle.rules.specs.declared.SpaceAnswer.the-variants.{Written, Refused as NoWords}
+use Rattle.rules.specs.declared.WaitingAnswer.{WaitingAnswer}
+use Rattle.rules.specs.declared.WaitingAnswer.the-variants.{Stands, Refused as NoClock}
+use Rattle.rules.specs.declared.WaitingFault.{WaitingFault}
+use Rattle.rules.specs.declared.WaitingFault.the-variants.{Word, Second, Widening}
 
 -- [2.1] The numbers that a call gives, or a refusal with its number and its place.
 pub data Answer : Type 0 where
@@ -31,7 +38,7 @@ pub record Check : Type 0 where
   pub place : ℕ
   pub arises : Bool
 
--- [2.2] A row at a place: the number of an order.
+-- [2.2] A row at a place: the number of an order, or of a word of a waiting list.
 abbrev pub rowAt : ℕ → ℕ → Bool → Check
 rowAt place number arises = record { number = number; place = place; arises = arises }
 
@@ -55,8 +62,14 @@ faultNumber Terms = 6
 faultNumber Quantity = 7
 faultNumber Ignored = 8
 
--- [2.3] All refusals: those of the heading, of an order, of the arguments, of the band, of the space, and of the
--- program's input.
+-- [2.3] The faults of a word of a waiting list: kind or value, a second that goes back, a widening that leaves the grid.
+abbrev pub waitingFaultNumber : WaitingFault → ℕ
+waitingFaultNumber Word = 13
+waitingFaultNumber Second = 14
+waitingFaultNumber Widening = 11
+
+-- [2.3] All refusals: those of the heading, of an order, of the arguments, of a word of a waiting list, of the band, of
+-- the space, and of the program's input.
 abbrev pub refusalNumber : Refusal → ℕ
 refusalNumber FewWords = 1
 refusalNumber HeadingKind = 2
@@ -64,11 +77,13 @@ refusalNumber HeadingPrice = 3
 refusalNumber Length = 4
 refusalNumber (Order f k) = faultNumber f
 refusalNumber Argument = 9
+refusalNumber (AtWord f i) = waitingFaultNumber f
 refusalNumber Band = 11
 refusalNumber Space = 10
 refusalNumber Input = 12
 
--- [2.4] Only a fault of an order has a place, the number of the order.
+-- [2.4] Only a fault of an order has a place, the number of the order, and one of a word of a waiting list, the number
+-- of the word.
 abbrev pub refusalPlace : Refusal → ℕ
 refusalPlace FewWords = 0
 refusalPlace HeadingKind = 0
@@ -76,6 +91,7 @@ refusalPlace HeadingPrice = 0
 refusalPlace Length = 0
 refusalPlace (Order f k) = k
 refusalPlace Argument = 0
+refusalPlace (AtWord f i) = i
 refusalPlace Band = 0
 refusalPlace Space = 0
 refusalPlace Input = 0
@@ -112,3 +128,17 @@ spaceAnswer (NoWords r) space = refused r
 abbrev pub bandAnswer : BandAnswer → Answer
 bandAnswer (Bounds lower upper) = gives (lower .0 ∷ upper .0 ∷ [])
 bandAnswer (NoBand r) = refused r
+
+-- [2.5] During a waiting phase 1, its start and its side; outside one three times 0.
+abbrev pub phaseNumbers : Phase → List ℕ
+phaseNumbers Idle = 0 ∷ 0 ∷ 0 ∷ []
+phaseNumbers (Waiting start side) = 1 ∷ start ∷ side ∷ []
+
+-- [2.5] These three, then the lower bound, the upper, and the openings due.
+abbrev pub clockNumbers : Clock → List ℕ
+clockNumbers c = phaseNumbers (c .phase) ++ (c .lower .0 ∷ c .upper .0 ∷ c .due ∷ [])
+
+-- [2.5] The clock that a waiting list leads to.
+abbrev pub waitingAnswer : WaitingAnswer → Answer
+waitingAnswer (Stands c) = gives (clockNumbers c)
+waitingAnswer (NoClock r) = refused r

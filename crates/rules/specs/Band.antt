@@ -66,10 +66,14 @@ widenedUpper side H = cond (eqb side 0) (11 * H / 10) H
 unfoldable pub widenedLower : ℕ → ℕ → ℕ
 widenedLower side D = cond (eqb side 0) D (roundedUp (9 * D) 10)
 
--- [9.8] 11 where the upper bound would be off the grid.
+-- [9.8] The upper bound would be off the grid.
+abbrev pub cannotWiden : ℕ → ℕ → Bool
+cannotWiden side H = ltb lastPrice (widenedUpper side H)
+
+-- [9.8] 11 where that is so.
 unfoldable pub widenedFor : ℕ → ℕ → ℕ → Answer
 widenedFor D H side =
-    downwards (row 11 (ltb lastPrice (widenedUpper side H)) ∷ []) (gives (widenedLower side D ∷ widenedUpper side H ∷ []))
+    downwards (row 11 (cannotWiden side H) ∷ []) (gives (widenedLower side D ∷ widenedUpper side H ∷ []))
 
 -- [9.8] 9 where the band does not stand or the side is unknown.
 unfoldable pub widenedBand : ℕ → ℕ → ℕ → Answer

@@ -12,13 +12,14 @@ use Rattle.rules.specs.Grid.{onGrid}
 use Rattle.rules.specs.Limits.{filed, numbered, standing}
 use Rattle.rules.specs.Opening.{Start, Round, roundFrom, firstStart, roundWords, openingBy, roundSpace, openingSpace}
 use Rattle.rules.specs.Sheet.{headingOf, ordersOf, sheetChecks, checkSheet}
+use Rattle.rules.specs.Waiting.{waitingClock}
 use Rattle.rules.specs.declared.Standing.{Standing}
 use Rattle.rules.specs.declared.Terms.{Terms}
 use Rattle.rules.specs.declared.Terms.the-variants.{WithoutLimit, Limited, Stepper}
 
 -- [10.1] The five calls on a sheet, given as its words: check; limit in force of a Stepper, by its number; curves, at
 -- a price; first round and opening, with the number of words of the space. Then indicative price, next band and
--- widening.
+-- widening; and the waiting clock, on a band and the words of a waiting list.
 pub data Call : Type 0 where
   check : List ℕ → Call
   stepperLimit : List ℕ → ℕ → Call
@@ -28,6 +29,7 @@ pub data Call : Type 0 where
   indicative : ℕ → ℕ → ℕ → ℕ → ℕ → Call
   next : ℕ → ℕ → Call
   widen : ℕ → ℕ → ℕ → Call
+  waiting : ℕ → ℕ → List ℕ → Call
 
 -- [10.2] What a call on a sheet answers: the sheet's faults first, then the rows of its own.
 abbrev pub onSheet : List ℕ → List Check → List ℕ → Answer
@@ -64,6 +66,7 @@ answerBy first round (opening ws space) =
 answerBy first round (indicative D H traded closing auction) = indicativePrice D H traded closing auction
 answerBy first round (next code I) = nextBand code I
 answerBy first round (widen D H side) = widenedBand D H side
+answerBy first round (waiting D H ws) = waitingClock D H ws
 
 -- [10.5] What the rules answer to a call.
 unfoldable pub answer : Call → Answer

@@ -1,4 +1,4 @@
--- Clauses 12.1–12.6 of docs/RULES.md: P1–P12 and further cases, as one table with a common statement, that the rules
+-- Clauses 12.1–12.6 of docs/RULES.md: P1–P12, further cases and those of the waiting clock, as one table with a common statement, that the rules
 -- give the answer of the case; then the listing, from bytes to text. D is 90, H 110, the last purchase price 100 and
 -- I 100, where a sheet says nothing else.
 use mathlib.Core.List.{List, [], _∷_, _++_, map}
@@ -7,7 +7,7 @@ use Prim.Native.Nat.{ℕ, _+_, _*_}
 use Prim.Native.String.{String}
 use lib.ListN.{length, set, replicate}
 use Rattle.rules.specs.Answers.{Answer, gives, refuses}
-use Rattle.rules.specs.Calls.{Call, check, stepperLimit, curvesAt, firstRound, opening, indicative, next, widen, answer}
+use Rattle.rules.specs.Calls.{Call, check, stepperLimit, curvesAt, firstRound, opening, indicative, next, widen, waiting, answer}
 use Rattle.rules.specs.Listing.{ascii, printed}
 use Rattle.rules.specs.Result.{roundsIn, roundSaid, startSaid, piecesOver, tradedOver}
 use Rattle.rules.specs.declared.Side.the-variants.{Buy}
@@ -80,6 +80,23 @@ opens orders rounds ending =
 -- [12.2] The Stepper of number k stands at this price.
 abbrev pub standsIn : List (List ℕ) → ℕ → ℕ → Case
 standsIn orders k price = case (stepperLimit (sheet orders) k) (gives (price ∷ []))
+
+-- [12.2] The words of a waiting list: a second of the day, and a round above, below or inside the band.
+abbrev pub atSecond : ℕ → ℕ
+atSecond s = word 1 s
+
+abbrev pub above : ℕ
+above = word 2 0
+
+abbrev pub below : ℕ
+below = word 3 0
+
+abbrev pub inside : ℕ
+inside = word 4 0
+
+-- [12.2] From the band 90 to 110 these words lead to this clock: the phase with start and side, the band, the openings due.
+abbrev pub waits : List ℕ → List ℕ → Case
+waits words clock = case (waiting 90 110 words) (gives clock)
 
 -- [12.2] The sheet of the listing, and the words of its result.
 abbrev pub listing : List ℕ
@@ -240,6 +257,55 @@ furtherCases =
     ∷ case (indicative 90 110 0 0 80) (gives (90 ∷ []))
     ∷ case (indicative 90 110 0 0 130) (gives (110 ∷ []))
     ∷ case (indicative 90 90 1 100 100) (refuses 9 0)
+    ∷ []
+
+-- ---- The waiting clock, worked out by hand
+
+-- [12.4a] Cases of the waiting clock.
+unfoldable pub waitingCases : List Case
+waitingCases =
+    -- no words: the starting band
+    waits [] (0 ∷ 0 ∷ 0 ∷ 90 ∷ 110 ∷ 0 ∷ [])
+    -- the first round outside starts a phase: before any second at 0, else at the latest one
+    ∷ waits (above ∷ []) (1 ∷ 0 ∷ 0 ∷ 90 ∷ 110 ∷ 0 ∷ [])
+    ∷ waits (atSecond 900 ∷ atSecond 1000 ∷ below ∷ []) (1 ∷ 1000 ∷ 1 ∷ 90 ∷ 110 ∷ 0 ∷ [])
+    -- a later one keeps the start and sets the side
+    ∷ waits (atSecond 1000 ∷ above ∷ atSecond 1300 ∷ below ∷ []) (1 ∷ 1000 ∷ 1 ∷ 90 ∷ 110 ∷ 0 ∷ [])
+    ∷ waits (atSecond 1000 ∷ above ∷ atSecond 1300 ∷ below ∷ atSecond 1600 ∷ []) (0 ∷ 0 ∷ 0 ∷ 81 ∷ 110 ∷ 1 ∷ [])
+    -- 599 seconds after the start the phase is on, 600 after it is over; also a phase that began before any second
+    ∷ waits (atSecond 1000 ∷ above ∷ atSecond 1599 ∷ []) (1 ∷ 1000 ∷ 0 ∷ 90 ∷ 110 ∷ 0 ∷ [])
+    ∷ waits (atSecond 1000 ∷ above ∷ atSecond 1600 ∷ []) (0 ∷ 0 ∷ 0 ∷ 90 ∷ 121 ∷ 1 ∷ [])
+    ∷ waits (above ∷ atSecond 599 ∷ []) (1 ∷ 0 ∷ 0 ∷ 90 ∷ 110 ∷ 0 ∷ [])
+    ∷ waits (above ∷ atSecond 600 ∷ []) (0 ∷ 0 ∷ 0 ∷ 90 ∷ 121 ∷ 1 ∷ [])
+    -- a round inside ends a phase and makes no opening due; where none is on it changes nothing
+    ∷ waits (atSecond 1000 ∷ above ∷ inside ∷ atSecond 1600 ∷ []) (0 ∷ 0 ∷ 0 ∷ 90 ∷ 110 ∷ 0 ∷ [])
+    ∷ waits (inside ∷ atSecond 1000 ∷ inside ∷ []) (0 ∷ 0 ∷ 0 ∷ 90 ∷ 110 ∷ 0 ∷ [])
+    -- a phase that starts in the second at which another ended
+    ∷ waits (atSecond 1000 ∷ above ∷ atSecond 1600 ∷ above ∷ []) (1 ∷ 1600 ∷ 0 ∷ 90 ∷ 121 ∷ 1 ∷ [])
+    ∷ waits (atSecond 1000 ∷ above ∷ atSecond 1600 ∷ below ∷ atSecond 2199 ∷ atSecond 2200 ∷ []) (0 ∷ 0 ∷ 0 ∷ 81 ∷ 121 ∷ 2 ∷ [])
+    -- a second long after the time is up ends one phase and makes one opening due
+    ∷ waits (above ∷ atSecond 5000 ∷ above ∷ []) (1 ∷ 5000 ∷ 0 ∷ 90 ∷ 121 ∷ 1 ∷ [])
+    -- the same second twice, and the last of the day; none after it, and no other kind or value
+    ∷ waits (atSecond 1000 ∷ atSecond 1000 ∷ atSecond 86399 ∷ []) (0 ∷ 0 ∷ 0 ∷ 90 ∷ 110 ∷ 0 ∷ [])
+    ∷ case (waiting 90 110 (atSecond 86400 ∷ [])) (refuses 13 0)
+    ∷ case (waiting 90 110 (atSecond 1000 ∷ word 0 0 ∷ [])) (refuses 13 1)
+    ∷ case (waiting 90 110 (above ∷ word 5 0 ∷ above ∷ [])) (refuses 13 1)
+    ∷ case (waiting 90 110 (word 2 1 ∷ [])) (refuses 13 0)
+    ∷ case (waiting 90 110 (word 3 1 ∷ [])) (refuses 13 0)
+    ∷ case (waiting 90 110 (word 4 1 ∷ [])) (refuses 13 0)
+    -- a second lower than the one before, also after a phase has ended; the lower place counts
+    ∷ case (waiting 90 110 (atSecond 1000 ∷ above ∷ atSecond 999 ∷ [])) (refuses 14 2)
+    ∷ case (waiting 90 110 (atSecond 1000 ∷ above ∷ atSecond 1600 ∷ inside ∷ atSecond 1599 ∷ [])) (refuses 14 4)
+    ∷ case (waiting 90 110 (atSecond 1000 ∷ atSecond 999 ∷ word 0 0 ∷ [])) (refuses 14 1)
+    -- the end of the grid: reached, then passed, at the second that widens; a lower bound has no such end
+    ∷ case (waiting 90 909091 (above ∷ atSecond 600 ∷ [])) (gives (0 ∷ 0 ∷ 0 ∷ 90 ∷ 1000000 ∷ 1 ∷ []))
+    ∷ case (waiting 90 909092 (above ∷ atSecond 600 ∷ [])) (refuses 11 1)
+    ∷ case (waiting 90 900000 (above ∷ atSecond 600 ∷ above ∷ atSecond 1199 ∷ atSecond 1200 ∷ [])) (refuses 11 4)
+    ∷ case (waiting 90 1000000 (above ∷ below ∷ atSecond 600 ∷ [])) (gives (0 ∷ 0 ∷ 0 ∷ 81 ∷ 1000000 ∷ 1 ∷ []))
+    -- a starting band that is none, before any word
+    ∷ case (waiting 110 110 (word 0 0 ∷ [])) (refuses 9 0)
+    ∷ case (waiting 0 110 []) (refuses 9 0)
+    ∷ case (waiting 90 1000001 []) (refuses 9 0)
     ∷ []
 
 -- ---- What the words of the listing's result say

@@ -11,6 +11,7 @@ pub mod Fills
 pub mod Opening
 pub mod Result
 pub mod Band
+pub mod Waiting
 pub mod Calls
 pub mod Listing
 pub mod Cases

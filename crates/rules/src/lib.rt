@@ -1,7 +1,7 @@
 // The types that the rules and the engine share, and the refusals with their numbers.
 ghost use mathlib.Core.Path.{_≡_};
 ghost use Rattle.rules.specs.Grid.{onGrid};
-ghost use Rattle.rules.specs.Answers.{faultNumber, refusalNumber, refusalPlace};
+ghost use Rattle.rules.specs.Answers.{faultNumber, waitingFaultNumber, refusalNumber, refusalPlace};
 
 // Clause 1.1: a price, in steps of ten hellers.
 pub struct Price(pub u32);
@@ -70,6 +70,23 @@ pub struct Heading {
     pub count: usize,
 }
 
+// Clause 9.10: whether a waiting phase is on, with the second of the day at which it started and the side
+// that a widening would move: 0 the upper bound, 1 the lower.
+pub enum Phase {
+    Idle,
+    Waiting { start: u32, side: u32 },
+}
+
+// Clause 9.10: what the words of a waiting list lead to: the latest second read, the phase, the band's
+// bounds and how many openings are due.
+pub struct Clock {
+    pub second: u32,
+    pub phase: Phase,
+    pub lower: Price,
+    pub upper: Price,
+    pub due: u32,
+}
+
 // What may be wrong with an order.
 pub enum OrderFault {
     // A wrong kind in its three words.
@@ -80,6 +97,16 @@ pub enum OrderFault {
     Quantity,
     // Ignored quantity out of range, or on an order that is no Stepper.
     Ignored,
+}
+
+// What may be wrong with a word of a waiting list.
+pub enum WaitingFault {
+    // A kind or a value that it may not have.
+    Word,
+    // A second before one that was read.
+    Second,
+    // A second whose widening would leave the grid.
+    Widening,
 }
 
 // Why a call refuses.
@@ -96,6 +123,8 @@ pub enum Refusal {
     Order(OrderFault, usize),
     // An argument that is not allowed.
     Argument,
+    // A fault of the word at this place of a waiting list.
+    Waiting(WaitingFault, usize),
     // A band that cannot be had.
     Band,
     // Too few words in the lent space.
@@ -117,6 +146,18 @@ impl OrderFault {
     }
 }
 
+impl WaitingFault {
+    pub fn number(self) -> u32
+        ensures { λ r. ⌜ r ≡ waitingFaultNumber self ⌝ }
+    {
+        match self {
+            WaitingFault::Word => 13,
+            WaitingFault::Second => 14,
+            WaitingFault::Widening => 11,
+        }
+    }
+}
+
 impl Refusal {
     // Clause 2.3.
     pub fn number(self) -> u32
@@ -129,6 +170,7 @@ impl Refusal {
             Refusal::Length => 4,
             Refusal::Order(fault, _) => fault.number(),
             Refusal::Argument => 9,
+            Refusal::Waiting(fault, _) => fault.number(),
             Refusal::Band => 11,
             Refusal::Space => 10,
             Refusal::Input => 12,
@@ -146,6 +188,7 @@ impl Refusal {
             Refusal::Length => 0,
             Refusal::Order(_, order) => order,
             Refusal::Argument => 0,
+            Refusal::Waiting(_, word) => word,
             Refusal::Band => 0,
             Refusal::Space => 0,
             Refusal::Input => 0,
@@ -184,5 +227,11 @@ pub enum SpaceAnswer {
 // The answer of a call that gives a band.
 pub enum BandAnswer {
     Bounds { lower: Price, upper: Price },
+    Refused(Refusal),
+}
+
+// The answer of the call that follows a waiting list: the clock that it leads to.
+pub enum WaitingAnswer {
+    Stands(Clock),
     Refused(Refusal),
 }

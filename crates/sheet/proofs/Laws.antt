@@ -90,7 +90,7 @@ pub so-far-none : (ws : List ℕ) {heading : Heading} {start : Cursor} {none : O
     → none ≡ noOrder → SoFar ws (heading .count) (replicate mostOrders none) start 0
 unfolding ordersChecks
 so-far-none ws {heading} reads e =
-    let passes = heading-passes ws (given-clear (headingChecks ws) [] (reads .0)) in
+    let passes = heading-passes ws (given-clear (headingChecks ws) (gives []) (reads .0)) in
     let counted : heading .count ≡ headingOf ws .count = ap (λ (h : Heading). h .count) (reads .1) in
     record {
       counted = counted;
@@ -120,7 +120,7 @@ module _ (ws : List ℕ) {count : ℕ} {orders : List Order} {cursor : Cursor} {
       let order = rw e at reads in
       let made : o ≡ orderAt ws i = rw (so-far .place) at (order .1) in
       let checked : Clear (checksIn ws (orderPlace i) i) =
-      given-clear (checksIn ws (orderPlace i) i) [] (rw (so-far .place) at (order .0 i)) in
+      given-clear (checksIn ws (orderPlace i) i) (gives []) (rw (so-far .place) at (order .0 i)) in
       let f = so-far .fits in
       record {
         counted = so-far .counted;
@@ -139,12 +139,12 @@ module _ (ws : List ℕ) {count : ℕ} {orders : List Order} {cursor : Cursor} {
       let fault = refused-stops (checksIn ws (orderPlace i) i) [] (rw (so-far .place) at ((rw e at reads) i)) in
       let stopped : Stops (ordersChecks ws (suc i)) (faultNumber f) i = stops-after (so-far .clear) fault in
       let n = so-far .counted in
-      refused-reading ws (OrderRefusal f i) (stops-after (given-clear (headingChecks ws) [] heading) (stops-later ws (suc i) (headingOf ws .count) (omega arith) stopped))
+      refused-reading ws (OrderRefusal f i) (stops-after (given-clear (headingChecks ws) (gives []) heading) (stops-later ws (suc i) (headingOf ws .count) (omega arith) stopped))
 
   pub accepted-reading : {heading : Heading} {start : Cursor} → HeadingReadsAs ws (PassedHeading heading start) → count ≤ i
       → ReadsAs ws (record { checked = Accepted; heading = heading; orders = orders })
   unfolding checkSheet sheetChecks headingRead placesRead ordersOf
   accepted-reading reads done =
       let last : i ≡ headingOf ws .count = omega (arith, so-far .few, so-far .counted) in
-      let e : AcceptedSheet ws = clear-append (given-clear (headingChecks ws) [] (reads .0)) (rw last at (so-far .clear)) .hands-on (gives []) in
+      let e : AcceptedSheet ws = clear-append (given-clear (headingChecks ws) (gives []) (reads .0)) (rw last at (so-far .clear)) .hands-on (gives []) in
       record { checked = sym e; heading = rw e (reads .1); orders = rw e (rw last at (painted-first noOrder mostOrders (so-far .places))) }

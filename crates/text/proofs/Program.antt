@@ -52,7 +52,7 @@ unfolding downwards
 last-row cs last vs passes = downwards-append cs (last ∷ []) (gives vs) ∙ go (downwards cs (gives [])) refl
   where
     go : (a : Answer) → downwards cs (gives []) ≡ a → downwards cs (downwards (last ∷ []) (gives vs)) ≡ downwards cs (gives vs)
-    go (gives ws) e = rw (passes (given-clear cs [] e))
+    go (gives ws) e = rw (passes (given-clear cs (gives []) e))
     go (refuses n k) e = let stops : Stops cs n k = refused-stops cs [] e in stops .refuses-all _ ∙ sym (stops .refuses-all (gives vs))
 
 opening-answer : (ws : List ℕ) → answer (opening ws 15005) ≡ downwards (sheetChecks ws) (gives (openingWords ws))
@@ -70,7 +70,7 @@ written-within ws space long (Refused r) after kept answers = tt
 written-within ws space long (Written count) after kept answers =
     let given : gives (firstWords count after) ≡ downwards (sheetChecks ws) (gives (openingWords ws)) =
     rw (long, opening-answer ws) at answers in
-    let clear : Clear (sheetChecks ws) = given-clear (sheetChecks ws) (openingWords ws) (sym given) in
+    let clear : Clear (sheetChecks ws) = given-clear (sheetChecks ws) (gives (openingWords ws)) (sym given) in
     let passes : AcceptedSheet ws = clear .hands-on (gives []) in
     let words : firstWords count after ≡ openingWords ws = ap wordsGiven (given ∙ clear .hands-on (gives (openingWords ws))) in
     let few : openingSpace (headingOf ws .count) ≤ 15005 = most-space (headingOf ws .count) (accepted-sound ws passes .heading .count) in

@@ -46,11 +46,11 @@ loop-again c = (omega arith, simp length-set (omega arith))
 array-share-prefix-words : tie.Need-array-share-prefix-words Inv-loop μ-loop
 array-share-prefix-words c = omega arith
 
-slice-aggregate-call-sheet : tie.Need-slice-aggregate-call-sheet Inv-loop μ-loop
-slice-aggregate-call-sheet c = simp length-take (omega arith)
+slice-aggregate-call-list : tie.Need-slice-aggregate-call-list Inv-loop μ-loop
+slice-aggregate-call-list c = simp length-take (omega arith)
 
-call-sheet-requires : tie.Need-call-sheet-requires Inv-loop μ-loop
-call-sheet-requires c κs = search tests
+call-list-requires : tie.Need-call-list-requires Inv-loop μ-loop
+call-list-requires c κs = search tests
 
 returns-2 : tie.Need-returns-2 Inv-loop μ-loop
 returns-2 c = search tests
@@ -72,6 +72,6 @@ answer-words-spec =
     loop-less
     loop-again
     array-share-prefix-words
-    slice-aggregate-call-sheet
-    call-sheet-requires
+    slice-aggregate-call-list
+    call-list-requires
     returns-2)
