@@ -10,9 +10,9 @@
  * promises are in crates/boxashewu/src/lib.rt, the calls one by one in docs/CALLS.md, the rules in docs/RULES.md, and what
  * its terms mean in docs/READING.md.
  *
- * Numbers. A price counts steps of ten hellers; the grid is the prices from 1 to 1,000,000. A band is two prices of the
- * grid, the lower bound D below the upper bound H, and both belong to it. An order has a quantity of 1 to 1,000,000 pieces;
- * orders are numbered from 0, as they stand on the sheet.
+ * Numbers. A price counts steps of ten hellers, tenths of a crown; the grid is the prices from 1 to 1,000,000. A band is
+ * two prices of the grid, the lower bound D below the upper bound H, and both belong to it. An order has a quantity of 1
+ * to 1,000,000 pieces; orders are numbered from 0, as they stand on the sheet.
  *
  * Words. A word is 32 bits: its kind in the upper 4, its value in the lower 28. A sheet is 5 + 3n words, for n orders from
  * none to 120. A result is the words of its rounds one after the other, 4 + n each, and a last word.
@@ -42,10 +42,10 @@
  * A waiting list has any number of words, none too. One after the other they say seconds of the day, and where rounds were
  * priced:
  *
- *     list    kind 1    the second of the day, 0 to 86,399, not lower than one said before
- *                  2    a round priced above the band, with value 0
- *                  3    one priced below it, likewise
- *                  4    one priced inside it, likewise
+ *     list    kind 1    the second of the day, 0 to 86,399, not lower than the one before it: 0x10007e90 is 09:00:00
+ *                  2    a round whose auction price is above the band, with value 0: 0x20000000
+ *                  3    one below it: 0x30000000
+ *                  4    one inside it: 0x40000000
  *
  * A Stepper stands one step ahead of its rivals, the other orders of its side, as far as its own limit lets it: that is its
  * limit in force.
@@ -66,8 +66,8 @@
  *      9  an argument that is not allowed
  *     10  too few words in the lent space
  *     11  a band that cannot be had
- *     13  a word of a waiting list that has another kind, or a value that its kind may not have
- *     14  a second of a waiting list that is lower than one before
+ *     13  a word of a waiting list that has none of the kinds 1 to 4, or a value that its kind may not have
+ *     14  a second of a waiting list that is lower than the one before it
  *
  * The first fault is the answer. They are judged in this order: of the heading 1 to 4, each over all its words before the
  * next; then of each order in turn 5 to 8, likewise; then 9; then of each word of a waiting list in turn 13, 14, 11; last 10,
@@ -180,17 +180,22 @@ struct auction_band auction_next_band(uint32_t code, uint32_t indicative);
  * 11 if the upper bound would be off the grid. */
 struct auction_band auction_widened_band(uint32_t lower, uint32_t upper, uint32_t side);
 
-/* The waiting clock: what the words of a waiting list lead to, from a starting band on. `phase` is 1 during a waiting phase,
- * else 0; `start` is the second at which it started and `side` the side of its latest round, 0 above and 1 below, both 0
- * outside a phase; then the band, and how many openings are due.
+/* The waiting clock: what the words of a waiting list lead to, from a starting band on. `phase` is 1 during a waiting
+ * phase, else 0; `start` is the second at which it started and `side` that of its latest round, 0 above and 1 below,
+ * both 0 outside a phase; then the band; and `due`, how many openings became due over the whole list.
  *
- * A round above or below the band sets the side. If no phase is on it starts one, at the latest second said, or at 0 if none
- * was; else the start stays. A round inside the band ends a phase. A second that is 600 or more after the start ends it too:
- * then the band is widened on the phase's side, as auction_widened_band does it, and one more opening is due. At most 143 can
- * be, as a phase that ends so takes 600 seconds of the day.
+ * A round above or below the band sets the side. If no phase is on it starts one, at the latest second said, or at
+ * second 0 if none was; else the start stays. A round inside the band ends a phase. A second that is 600 or more after
+ * the start ends it too, and nothing but a second does so by time, however late rounds come: then the band is widened on
+ * the phase's side, as auction_widened_band does it, and one more opening is due. One such second widens once, however
+ * late it is. No word takes an opening off again; more than 143 cannot be due, as a 144th would need second 86,400.
  *
- * 9 if the bounds are no band, before any word is looked at. Then of each word in turn 13, 14, and 11 if it is a second that
- * ends a phase and the upper bound would be off the grid. */
+ * So begin a list with a second, say one before each round, and the present one last. Nothing is kept between two calls:
+ * to go on, hand in the whole list again with the starting band. After a refusal at a word, the call with `place` for
+ * `count` gives the clock as it stood before that word.
+ *
+ * 9 if the bounds are no band, before any word is looked at. Then of each word in turn 13, 14, and 11 if it is a second
+ * that ends a phase and the upper bound would be off the grid. */
 struct auction_waiting auction_waiting_clock(uint32_t lower, uint32_t upper, const uint32_t *words, size_t count);
 
 #ifdef __cplusplus

@@ -1,5 +1,5 @@
-//! Opening call auctions: the calls of Boxashewu for programs in Rust. The words of a sheet and of a result, and the refusals, are
-//! in boxashewu.h beside this file. A program takes this file as a module, by `#[path = "include/boxashewu.rs"] mod boxashewu;`, and
+//! Opening call auctions: the calls of Boxashewu for programs in Rust. The words of a sheet, of a result and of a waiting list, and the
+//! refusals, are in boxashewu.h beside this file. A program takes this file as a module, by `#[path = "include/boxashewu.rs"] mod boxashewu;`, and
 //! links libboxashewu.a (rustc 1.82 or newer, any edition):
 //!
 //! ```text
@@ -49,7 +49,7 @@ pub struct WaitingRefusal {
 }
 
 impl fmt::Display for WaitingRefusal {
-    /// As the programs print it: the number, and the word or 0.
+    /// As the program `calls` prints it: the number, and the word or 0.
     fn fmt(&self, out: &mut fmt::Formatter) -> fmt::Result {
         write!(out, "refused {} {}", self.number, self.word.unwrap_or(0))
     }
@@ -77,7 +77,7 @@ pub struct Phase {
     pub side: u32,
 }
 
-/// What a waiting list leads to: the phase that is on, if any, the band, and how many openings are due.
+/// What a waiting list leads to: the phase that is on, if any, the band, and how many openings are due, counted over the whole list.
 #[derive(Clone, Copy, Debug, PartialEq, Eq)]
 pub struct Waiting {
     pub phase: Option<Phase>,
@@ -273,9 +273,9 @@ pub fn widened_band(lower: u32, upper: u32, side: u32) -> Result<Band, Refusal> 
     )
 }
 
-/// What the words of a waiting list lead to, from a starting band on. 9 if the bounds are no band; then of each word in turn 13 if
-/// its kind or value is wrong, 14 if it is a second lower than one before, 11 if it is a second that ends a phase and the upper bound
-/// would be off the grid.
+/// What the words of a waiting list lead to, from a starting band on; when a phase starts and ends is said in boxashewu.h, at
+/// auction_waiting_clock. 9 if the bounds are no band; then of each word in turn 13 if its kind or value is wrong, 14 if it is a second
+/// that is lower than the one before it, 11 if it is a second that ends a phase and the upper bound would be off the grid.
 pub fn waiting_clock(lower: u32, upper: u32, words: &[u32]) -> Result<Waiting, WaitingRefusal> {
     let reply = unsafe { raw::auction_waiting_clock(lower, upper, words.as_ptr(), words.len()) };
     let (start, side) = (reply.start, reply.side);

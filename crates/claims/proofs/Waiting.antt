@@ -1,5 +1,5 @@
 -- A word that is not refused keeps the clock sound: the band stands, the latest second is one of the day, and each opening
--- that is due took 600 seconds before the present phase started. So no clock that is answered has more than 143 openings due.
+-- that is due took at least 600 seconds before the present phase started. So no clock that is answered has more than 143 openings due.
 use mathlib.Core.Bool.{Bool, true, false, not, _&&_, _||_, false≢true}
 use mathlib.Core.List.{List, [], _∷_, _++_}
 use mathlib.Core.Path.{_≡_, refl, sym, _∙_}

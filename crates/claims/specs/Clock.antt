@@ -6,7 +6,7 @@ use Rattle.rules.specs.Band.{bandStands}
 use Rattle.rules.specs.Waiting.{lastSecond, startIn, waitingTime, sideIn}
 use Rattle.rules.specs.declared.Clock.{Clock}
 
--- The band stands, the latest second is one of the day, and the openings due took 600 seconds each, all before the start of
+-- The band stands, the latest second is one of the day, and the openings due took at least 600 seconds each, all before the start of
 -- the phase that is on, or is next to start.
 pub record SoundClock (c : Clock) : Type 0 where
   pub band : bandStands (c .lower .0) (c .upper .0) ≡ true

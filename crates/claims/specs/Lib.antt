@@ -1,5 +1,5 @@
--- What is claimed of a result, beyond what the rules say it is: F1–F4 and the largest fills, the auction price against other prices,
--- demand 3, and what the two calls that write promise. Each claim is a theorem in proofs/.
+-- What is claimed beyond what the rules say: F1–F4 and the largest fills, the auction price against other prices, demand 3, what the two
+-- calls that write promise, and what may be expected of the waiting clock. Each claim is a theorem in proofs/.
 pub mod Fills
 pub mod Price
 pub mod Demand3

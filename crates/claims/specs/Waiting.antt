@@ -7,8 +7,8 @@ use Rattle.rules.specs.Answers.{gives}
 use Rattle.rules.specs.Band.{bandStands}
 use Rattle.rules.specs.Calls.{waiting, answer}
 
--- [13.10] Whatever six numbers are answered, the two bounds are a band, and at most 143 openings are due: each takes 600
--- seconds of the day for itself.
+-- [13.10] Whatever six numbers are answered, the two bounds are a band, and at most 143 openings are due: a 144th would
+-- need a second 86,400.
 abbrev pub WaitingExpected : ℕ → ℕ → List ℕ → Type 0
 WaitingExpected D H ws =
     (phase start side lower upper due : ℕ)

@@ -19,7 +19,7 @@ use Rattle.rules.specs.declared.Phase.the-variants.{Idle, Waiting}
 use Rattle.rules.specs.declared.PriceAnswer.{PriceAnswer}
 use Rattle.rules.specs.declared.PriceAnswer.the-variants.{At, Refused as NoPrice}
 use Rattle.rules.specs.declared.Refusal.{Refusal}
-use Rattle.rules.specs.declared.Refusal.the-variants.{FewWords, HeadingKind, HeadingPrice, Length, Order, Argument, Waiting as AtWord, Band, Space, Input}
+use Rattle.rules.specs.declared.Refusal.the-variants.{FewWords, HeadingKind, HeadingPrice, Length, Order, Argument, AtWord, Band, Space, Input}
 use Rattle.rules.specs.declared.SpaceAnswer.{SpaceAnswer}
 use Rattle.rules.specs.declared.SpaceAnswer.the-variants.{Written, Refused as NoWords}
 use Rattle.rules.specs.declared.WaitingAnswer.{WaitingAnswer}
@@ -82,8 +82,7 @@ refusalNumber Band = 11
 refusalNumber Space = 10
 refusalNumber Input = 12
 
--- [2.4] Only a fault of an order has a place, the number of the order, and one of a word of a waiting list, the number
--- of the word.
+-- [2.4] Two sorts of faults have a place: of an order's it is the number of the order, of a waiting word's that of the word.
 abbrev pub refusalPlace : Refusal → ℕ
 refusalPlace FewWords = 0
 refusalPlace HeadingKind = 0

@@ -293,15 +293,18 @@ waitingCases =
     ∷ case (waiting 90 110 (word 2 1 ∷ [])) (refuses 13 0)
     ∷ case (waiting 90 110 (word 3 1 ∷ [])) (refuses 13 0)
     ∷ case (waiting 90 110 (word 4 1 ∷ [])) (refuses 13 0)
-    -- a second lower than the one before, also after a phase has ended; the lower place counts
+    -- a second lower than the one before, also after a phase has ended; the first word at fault counts
     ∷ case (waiting 90 110 (atSecond 1000 ∷ above ∷ atSecond 999 ∷ [])) (refuses 14 2)
     ∷ case (waiting 90 110 (atSecond 1000 ∷ above ∷ atSecond 1600 ∷ inside ∷ atSecond 1599 ∷ [])) (refuses 14 4)
     ∷ case (waiting 90 110 (atSecond 1000 ∷ atSecond 999 ∷ word 0 0 ∷ [])) (refuses 14 1)
-    -- the end of the grid: reached, then passed, at the second that widens; a lower bound has no such end
+    -- the end of the grid: reached, then passed, at the second that widens; a lower bound stays on it
     ∷ case (waiting 90 909091 (above ∷ atSecond 600 ∷ [])) (gives (0 ∷ 0 ∷ 0 ∷ 90 ∷ 1000000 ∷ 1 ∷ []))
     ∷ case (waiting 90 909092 (above ∷ atSecond 600 ∷ [])) (refuses 11 1)
     ∷ case (waiting 90 900000 (above ∷ atSecond 600 ∷ above ∷ atSecond 1199 ∷ atSecond 1200 ∷ [])) (refuses 11 4)
     ∷ case (waiting 90 1000000 (above ∷ below ∷ atSecond 600 ∷ [])) (gives (0 ∷ 0 ∷ 0 ∷ 81 ∷ 1000000 ∷ 1 ∷ []))
+    ∷ case (waiting 1 110 (below ∷ atSecond 600 ∷ [])) (gives (0 ∷ 0 ∷ 0 ∷ 1 ∷ 110 ∷ 1 ∷ []))
+    -- what a word is comes before what it does: a second that the day has not, where the widening would fail
+    ∷ case (waiting 90 1000000 (above ∷ atSecond 86400 ∷ [])) (refuses 13 1)
     -- a starting band that is none, before any word
     ∷ case (waiting 110 110 (word 0 0 ∷ [])) (refuses 9 0)
     ∷ case (waiting 0 110 []) (refuses 9 0)

@@ -32,7 +32,7 @@ waitingWord w = isSecond w && leb (w .value) lastSecond || isRound w
 
 -- ---- The clock
 
--- [9.10] Before the first word: no second read, which counts as second 0; no phase, the starting band, no opening due.
+-- [9.10] Before the first word: no second said, which counts as second 0; no phase, the starting band, no opening due.
 abbrev pub clockAtStart : ℕ → ℕ → Clock
 clockAtStart D H = record {
   second = 0;
@@ -42,7 +42,12 @@ clockAtStart D H = record {
   due = 0;
 }
 
--- [9.11] Where a phase started; one that is still to start will do so at the latest second read.
+-- [9.10] The side of the phase; it matters only where one is on.
+abbrev pub sideIn : Phase → ℕ
+sideIn Idle = 0
+sideIn (Waiting start side) = side
+
+-- [9.11] The second at which the phase started; where none is on, the latest one, at which it would start now.
 abbrev pub startIn : Phase → ℕ → ℕ
 startIn Idle second = second
 startIn (Waiting start side) second = start
@@ -61,18 +66,13 @@ afterOutside side c = record {
 unfoldable pub afterInside : Clock → Clock
 afterInside c = record { second = c .second; phase = Idle; lower = c .lower; upper = c .upper; due = c .due }
 
--- [9.13] A phase lasts 600 seconds: its time is up at each second from then on.
+-- [9.13] The time of a phase is 600 seconds: it is up at every second from 600 after the start on.
 abbrev pub waitingTime : ℕ
 waitingTime = 600
 
 unfoldable pub timeIsUp : Phase → ℕ → Bool
 timeIsUp Idle second = false
 timeIsUp (Waiting start side) second = leb (start + waitingTime) second
-
--- [9.13] The side of a phase. Only where a phase is on does it matter.
-abbrev pub sideIn : Phase → ℕ
-sideIn Idle = 0
-sideIn (Waiting start side) = side
 
 -- [9.13] After a second at which the time is up no phase is on, the band is widened on the phase's side, and one more
 -- opening is due.
@@ -92,7 +92,7 @@ afterSecond second c =
     (afterTime second c)
     (record { second = second; phase = c .phase; lower = c .lower; upper = c .upper; due = c .due })
 
--- [9.14] The clock after a word, from the clock before it.
+-- [9.14] The clock after a word, from the clock before it. Only words of clause 9.9 come here (9.16).
 unfoldable pub afterWord : Clock → Word → Clock
 afterWord c w =
     cond (isSecond w)

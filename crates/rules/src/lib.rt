@@ -22,7 +22,7 @@ pub fn on_grid(price: u32) -> bool
     (1 <= price) & (price <= LAST_PRICE)
 }
 
-// Clause 1.5: a word of a sheet or of a result.
+// Clause 1.5: a word of a sheet, of a result or of a waiting list.
 pub struct Word {
     pub kind: u32,
     pub value: u32,
@@ -70,14 +70,14 @@ pub struct Heading {
     pub count: usize,
 }
 
-// Clause 9.10: whether a waiting phase is on, with the second of the day at which it started and the side
-// that a widening would move: 0 the upper bound, 1 the lower.
+// Clause 9.10: whether a waiting phase is on, with the second of the day at which it started and its side,
+// 0 above and 1 below, on which a widening would move the band's bound.
 pub enum Phase {
     Idle,
     Waiting { start: u32, side: u32 },
 }
 
-// Clause 9.10: what the words of a waiting list lead to: the latest second read, the phase, the band's
+// Clause 9.10: what the words of a waiting list lead to: the latest second said, the phase, the band's
 // bounds and how many openings are due.
 pub struct Clock {
     pub second: u32,
@@ -103,7 +103,7 @@ pub enum OrderFault {
 pub enum WaitingFault {
     // A kind or a value that it may not have.
     Word,
-    // A second before one that was read.
+    // A second that is lower than the one before it.
     Second,
     // A second whose widening would leave the grid.
     Widening,
@@ -124,7 +124,7 @@ pub enum Refusal {
     // An argument that is not allowed.
     Argument,
     // A fault of the word at this place of a waiting list.
-    Waiting(WaitingFault, usize),
+    AtWord(WaitingFault, usize),
     // A band that cannot be had.
     Band,
     // Too few words in the lent space.
@@ -170,7 +170,7 @@ impl Refusal {
             Refusal::Length => 4,
             Refusal::Order(fault, _) => fault.number(),
             Refusal::Argument => 9,
-            Refusal::Waiting(fault, _) => fault.number(),
+            Refusal::AtWord(fault, _) => fault.number(),
             Refusal::Band => 11,
             Refusal::Space => 10,
             Refusal::Input => 12,
@@ -188,7 +188,7 @@ impl Refusal {
             Refusal::Length => 0,
             Refusal::Order(_, order) => order,
             Refusal::Argument => 0,
-            Refusal::Waiting(_, word) => word,
+            Refusal::AtWord(_, word) => word,
             Refusal::Band => 0,
             Refusal::Space => 0,
             Refusal::Input => 0,

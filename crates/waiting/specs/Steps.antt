@@ -1,4 +1,4 @@
--- The steps of the waiting clock, for the promises inside this crate: what a word does, in the terms of the rules. Serves [9.13] to [9.15].
+-- The steps of the waiting clock, for the promises inside this crate: what a word does, in the terms of the rules. Serves [9.11] to [9.15].
 use mathlib.Core.Bool.{true, false}
 use mathlib.Core.List.{[]}
 use mathlib.Core.Path.{_≡_}

@@ -30,7 +30,7 @@ fn follow(start: Clock, words: &[u32]) -> WaitingAnswer
                 clock = next;
             }
             Moved::Faulty(fault) => {
-                return WaitingAnswer::Refused(Refusal::Waiting(fault, cursor.at));
+                return WaitingAnswer::Refused(Refusal::AtWord(fault, cursor.at));
             }
         }
         cursor = step.next;
