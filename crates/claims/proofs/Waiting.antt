@@ -1,5 +1,6 @@
 -- A word that is not refused keeps the clock sound: the band stands, the latest second is one of the day, and each opening
--- that is due took at least 600 seconds before the present phase started. So no clock that is answered has more than 143 openings due.
+-- that is due took at least 600 seconds before the present phase started. So no clock that is answered has more than 143
+-- openings due.
 use mathlib.Core.Bool.{Bool, true, false, not, _&&_, _||_, false≢true}
 use mathlib.Core.List.{List, [], _∷_, _++_}
 use mathlib.Core.Path.{_≡_, refl, sym, _∙_}
@@ -26,7 +27,8 @@ use Rattle.rules.specs.declared.Word.{Word}
 
 -- ---- A widened band
 
-pub band-bounds : (D H : ℕ) → bandStands D H ≡ true → OnGrid D × OnGrid H × (D < H)
+-- what a band that stands tells of its bounds, and the other way round
+band-bounds : (D H : ℕ) → bandStands D H ≡ true → OnGrid D × OnGrid H × (D < H)
 unfolding bandStands
 band-bounds D H e =
     let t = both {a = onGrid D && onGrid H} e in
@@ -37,6 +39,7 @@ bounds-stand : (D H : ℕ) → OnGrid D → OnGrid H → D < H → bandStands D 
 unfolding bandStands
 bounds-stand D H lower upper below = rw (is-on-grid D lower, is-on-grid H upper, lt-ltb D H below)
 
+-- a widened bound does not move inwards, and a lower one stays on the grid
 upper-kept : (side H : ℕ) → H ≤ widenedUpper side H
 unfolding widenedUpper
 upper-kept side H = by-test (λ u. H ≤ u) (eqb side 0) (λ e. omega arith) (λ e. le-refl H)

@@ -23,10 +23,10 @@ const INSIDE: u32 = 4;
 // The last second of a day.
 const LAST_SECOND: u32 = 86399;
 
-// How long a phase lasts, in seconds.
+// After how many seconds the time of a phase is up.
 const WAITING_TIME: u64 = 600;
 
-// The sides of a widening.
+// The sides: a round above the band widens its upper bound, one below it the lower.
 const UPPER: u32 = 0;
 
 const LOWER: u32 = 1;

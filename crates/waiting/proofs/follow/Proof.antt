@@ -8,9 +8,6 @@ use borrow.Author.Needs.{needs}
 use Rattle.waiting.proofs.follow.Statement.{statement}
 use Rattle.waiting.proofs.follow.Tie as tie
 
--- `follow` meets its contract. The invariant, `Following`: the clock is the one to which the words before the cursor led from
--- the first clock on. The measure is the number of words left.
-
 abbrev Inv-loop : tie.InvT-loop
 Inv-loop words clock₀ cursor₀ clock cursor = Following clock₀ words clock (cursor .at)
 

@@ -7,9 +7,6 @@ use borrow.Author.Needs.{needs}
 use Rattle.waiting.proofs.steps.after_time.Statement.{statement}
 use Rattle.waiting.proofs.steps.after_time.Tie as tie
 
--- `after_time` meets its contract. The widening call answers for a band that stands and a known side, so only its
--- refusal 11 is left; an opening more has room, as there are at most 143.
-
 side-in-requires : tie.Need-side-in-requires
 side-in-requires c κs = search needs
 
