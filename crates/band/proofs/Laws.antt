@@ -1,5 +1,5 @@
 -- Laws of the band calls, over plain numbers: what a band that stands tells of its bounds, and that no product overflows.
-use mathlib.Core.Bool.{Bool, true, false, _&&_, cond}
+use mathlib.Core.Bool.{Bool, true, false, cond}
 use mathlib.Core.Path.{_≡_}
 use Prim.Native.Nat.{ℕ, _*_, _≤_}
 use native.Mathlib.Nat.{mul-le-mul}
@@ -7,15 +7,11 @@ use native.Mathlib.Omega.{arith}
 use lib.Dec.{leb, eqb}
 use borrow.Author.Tests.{leb-true}
 use Rattle.rules.specs.Band.{bandStands, percentOf}
-use Rattle.rules.specs.Grid.{onGrid}
-use Rattle.rules.proofs.Grid.{both, on-grid}
+use Rattle.rules.proofs.Grid.{band-on-grid}
 
 -- the bounds of a band that stands are on the grid
 pub bounds-small : (D H : ℕ) → bandStands D H ≡ true → (D ≤ 1000000) × (H ≤ 1000000)
-unfolding bandStands
-bounds-small D H e =
-    let grid = both {a = onGrid D} (both {a = onGrid D && onGrid H} e .0) in
-    (on-grid D (grid .0) .1, on-grid H (grid .1) .1)
+bounds-small D H e = let (lower, upper) = band-on-grid D H e in (lower .1, upper .1)
 
 -- a price of the grid times a percentage of at most 200 fits 32 bits with room to spare
 pub product-fits : (i q : ℕ) → i ≤ 1000000 → q ≤ 200 → i * q ≤ 200000000

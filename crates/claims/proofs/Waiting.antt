@@ -12,7 +12,7 @@ use borrow.Author.Tests.{leb-true, ltb-true, ltb-false, lt-ltb, eqb-true, not-fa
 use Rattle.claims.specs.Clock.{SoundClock}
 use Rattle.claims.specs.Waiting.{WaitingExpected}
 use Rattle.rules.proofs.Downwards.{Clear, given-clear, clear-row, clear-rest}
-use Rattle.rules.proofs.Grid.{OnGrid, both, on-grid, is-on-grid}
+use Rattle.rules.proofs.Grid.{OnGrid, both, is-on-grid, band-on-grid}
 use Rattle.rules.proofs.Tests.{by-test}
 use Rattle.rules.specs.Answers.{gives, row, phaseNumbers}
 use Rattle.rules.specs.Band.{bandStands, widenedUpper, widenedLower, cannotWiden}
@@ -31,9 +31,8 @@ use Rattle.rules.specs.declared.Word.{Word}
 band-bounds : (D H : ℕ) → bandStands D H ≡ true → OnGrid D × OnGrid H × (D < H)
 unfolding bandStands
 band-bounds D H e =
-    let t = both {a = onGrid D && onGrid H} e in
-    let grid = both {a = onGrid D} (t .0) in
-    (on-grid D (grid .0), on-grid H (grid .1), ltb-true D H (t .1))
+    let (lower, upper) = band-on-grid D H e in
+    (lower, upper, ltb-true D H (both {a = onGrid D && onGrid H} e .1))
 
 bounds-stand : (D H : ℕ) → OnGrid D → OnGrid H → D < H → bandStands D H ≡ true
 unfolding bandStands

@@ -1,4 +1,4 @@
--- What the tests of the grid tell, and where a price that is moved into the band lies.
+-- What the tests of the grid and of a band tell, and where a price that is moved into the band lies.
 use mathlib.Core.Bool.{Bool, true, _&&_, and-eq-true-iff}
 use mathlib.Core.Path.{_≡_}
 use Prim.Native.Nat.{ℕ, _≤_}
@@ -6,6 +6,7 @@ use native.Mathlib.Nat.{le-refl}
 use lib.Dec.{leb, ltb}
 use borrow.Author.Tests.{leb-true, le-leb, ltb-false}
 use Rattle.rules.proofs.Tests.{by-test}
+use Rattle.rules.specs.Band.{bandStands}
 use Rattle.rules.specs.Grid.{lastPrice, onGrid, movedInto}
 
 abbrev pub OnGrid : ℕ → Type 0
@@ -22,6 +23,13 @@ on-grid p e = let t = both {a = leb 1 p} e in (leb-true 1 p (t .0), leb-true p l
 pub is-on-grid : (p : ℕ) → OnGrid p → onGrid p ≡ true
 unfolding onGrid
 is-on-grid p on = rw (le-leb 1 p (on .0), le-leb p lastPrice (on .1))
+
+-- the bounds of a band that stands are on the grid
+pub band-on-grid : (D H : ℕ) → bandStands D H ≡ true → OnGrid D × OnGrid H
+unfolding bandStands
+band-on-grid D H e =
+    let grid = both {a = onGrid D} (both {a = onGrid D && onGrid H} e .0) in
+    (on-grid D (grid .0), on-grid H (grid .1))
 
 -- a price moved into the band lies there
 pub moved-within : (D H p : ℕ) → D ≤ H → (D ≤ movedInto D H p) × (movedInto D H p ≤ H)
