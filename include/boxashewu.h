@@ -57,7 +57,7 @@
  *
  *      1  a sheet of fewer than 5 words
  *      2  a word of a wrong kind in the heading, the first 5 words
- *      3  a price of the heading that is off the grid, or I not strictly between D and H
+ *      3  a price of the heading that is off the grid, the last purchase price too
  *      4  more than 120 orders, or not 5 + 3n words
  *      5  a word of a wrong kind in an order
  *      6  a disposition above 2, a limit off the grid, a Stepper without limit
@@ -68,10 +68,12 @@
  *     11  a band that cannot be had
  *     13  a word of a waiting list that has none of the kinds 1 to 4, or a value that its kind may not have
  *     14  a second of a waiting list that is lower than the one before it
+ *     15  I not strictly between D and H, in a heading whose prices are all on the grid
  *
- * The first fault is the answer. They are judged in this order: of the heading 1 to 4, each over all its words before the
- * next; then of each order in turn 5 to 8, likewise; then 9; then of each word of a waiting list in turn 13, 14, 11; last 10,
- * or 11 where a band is all that is asked for. (12 is of the opening program alone, for bytes that are no list of words.)
+ * The first fault is the answer. They are judged in this order: of the heading 1, 2, 3, 15, 4, each over all its words before
+ * the next; then of each order in turn 5 to 8, likewise; then 9; then of each word of a waiting list in turn 13, 14, 11; last
+ * 10, or 11 where a band is all that is asked for. Those of heading and orders are below called the refusals of a sheet. (12 is
+ * of the opening program alone, for bytes that are no list of words.)
  *
  * What a caller owes. No call can check these, and if one of them fails, nothing is promised:
  *
@@ -148,19 +150,19 @@ struct auction_waiting {
     uint32_t due;
 };
 
-/* Checks a sheet. Refusals 1 to 8. */
+/* Checks a sheet. Refusals: those of a sheet. */
 struct auction_sheet auction_check(const uint32_t *words, size_t count);
 
-/* In the first round: the limit in force of an order that is a Stepper, by its number. Refusals 1 to 8; 9 if there is no
- * such order, or it is no Stepper. */
+/* In the first round: the limit in force of an order that is a Stepper, by its number. Refusals: those of a sheet; 9 if there
+ * is no such order, or it is no Stepper. */
 struct auction_price auction_stepper_limit(const uint32_t *words, size_t count, size_t order);
 
-/* In the first round: demand, supply and volume at a price. Refusals 1 to 8; 9 if the price is off the grid. */
+/* In the first round: demand, supply and volume at a price. Refusals: those of a sheet; 9 if the price is off the grid. */
 struct auction_curves auction_curves_at(const uint32_t *words, size_t count, uint32_t price);
 
 /* The first round alone, without a last word, and the whole opening. The words of the result are written from the start of
  * `space`, and the record counts them; all other words of the space, and after a refusal all of them, keep what they held.
- * Refusals 1 to 8; 10 if `room` is less than the words asked for. */
+ * Refusals: those of a sheet; 10 if `room` is less than the words asked for. */
 struct auction_space auction_first_round(const uint32_t *words, size_t count, uint32_t *space, size_t room);
 struct auction_space auction_opening(const uint32_t *words, size_t count, uint32_t *space, size_t room);
 

@@ -25,7 +25,7 @@ pub const OPENING_WORDS: usize = 15005;
 /// What a call may take of the stack. The most that was measured is a third of it.
 pub const STACK_BYTES: usize = 65536;
 
-/// Which fault it is, 1 to 11, and for 5 to 8 the order at fault, counted from 0.
+/// Which fault it is, by the header's numbers, and for 5 to 8 the order at fault, counted from 0.
 #[derive(Clone, Copy, Debug, PartialEq, Eq)]
 pub struct Refusal {
     pub number: u32,
@@ -191,20 +191,20 @@ fn answered<T>(refusal: u32, order: usize, value: T) -> Result<T, Refusal> {
 // nothing and is seen by nobody else, and the library's functions touch every page of the stack that they take, one after the
 // other, so that too small a stack is met at its guard page.
 
-/// Whether a sheet is accepted. Refusals 1 to 8.
+/// Whether a sheet is accepted. Refusals: those of a sheet.
 pub fn check(words: &[u32]) -> Result<(), Refusal> {
     let reply = unsafe { raw::auction_check(words.as_ptr(), words.len()) };
     answered(reply.refusal, reply.order, ())
 }
 
-/// The limit in force, in the first round, of an order that is a Stepper. Refusals 1 to 8; 9 if there is no such order, or it is no
-/// Stepper.
+/// The limit in force, in the first round, of an order that is a Stepper. Refusals: those of a sheet; 9 if there is no such order, or it
+/// is no Stepper.
 pub fn stepper_limit(words: &[u32], order: usize) -> Result<u32, Refusal> {
     let reply = unsafe { raw::auction_stepper_limit(words.as_ptr(), words.len(), order) };
     answered(reply.refusal, reply.order, reply.price)
 }
 
-/// Demand, supply and volume at a price in the first round. Refusals 1 to 8; 9 if the price is off the grid.
+/// Demand, supply and volume at a price in the first round. Refusals: those of a sheet; 9 if the price is off the grid.
 pub fn curves_at(words: &[u32], price: u32) -> Result<Curves, Refusal> {
     let reply = unsafe { raw::auction_curves_at(words.as_ptr(), words.len(), price) };
     let curves = Curves {
@@ -216,7 +216,7 @@ pub fn curves_at(words: &[u32], price: u32) -> Result<Curves, Refusal> {
 }
 
 /// The words of the first round, which now stand at the start of the space; its other words keep what they held, and all of them
-/// where the call refuses. Refusals 1 to 8; 10 if the space has fewer than 4 + n words.
+/// where the call refuses. Refusals: those of a sheet; 10 if the space has fewer than 4 + n words.
 pub fn first_round<'a>(words: &[u32], space: &'a mut [u32]) -> Result<&'a [u32], Refusal> {
     let reply = unsafe {
         raw::auction_first_round(words.as_ptr(), words.len(), space.as_mut_ptr(), space.len())
@@ -224,7 +224,7 @@ pub fn first_round<'a>(words: &[u32], space: &'a mut [u32]) -> Result<&'a [u32],
     answered(reply.refusal, reply.order, &space[..reply.count])
 }
 
-/// The words of the opening, likewise. Refusals 1 to 8; 10 if the space has fewer than (n + 1) × (n + 4) + 1 words.
+/// The words of the opening, likewise. Refusals: those of a sheet; 10 if the space has fewer than (n + 1) × (n + 4) + 1 words.
 pub fn opening<'a>(words: &[u32], space: &'a mut [u32]) -> Result<&'a [u32], Refusal> {
     let reply = unsafe {
         raw::auction_opening(words.as_ptr(), words.len(), space.as_mut_ptr(), space.len())

@@ -218,11 +218,27 @@ fn answered(lines: &[(&str, &str, &str)]) {
     }
 }
 
+/// D, H, the last purchase price and I, in decimal here, as the first four words of a sheet.
+fn head([lower, upper, last, indicative]: [u32; 4]) -> String {
+    format!("1{lower:07x} 2{upper:07x} 3{last:07x} 4{indicative:07x}")
+}
+
+/// Every call on a sheet refuses these words with the same number, and so does the program. The
+/// number or space that a call takes would not do either, but its turn comes only after the sheet.
+fn refused_by_all(words: &str, number: u32) {
+    let refused = format!("refused {number} 0");
+    for call in ["check", "stepper 0", "curves 0", "round 0", "opening 0"] {
+        let line = format!("{call} {words}");
+        assert_eq!(answer_line(&line), refused, "{line}");
+    }
+    assert_eq!(opening_program(&bytes_of(words)), refused + "\n", "{words}");
+}
+
 #[test]
 fn refusals_of_the_heading() {
     assert_eq!(answer_line("check"), "refused 1 0");
     let equal = "check 10000064 2000006e 30000064 40000064 50000079";
-    assert_eq!(answer_line(equal), "refused 3 0");
+    assert_eq!(answer_line(equal), "refused 15 0");
     let off_grid = "check 10000000 2000006e 30000064 40000064 50000079";
     assert_eq!(answer_line(off_grid), "refused 3 0");
     answered(&[
@@ -232,6 +248,111 @@ fn refusals_of_the_heading() {
         ("check", "50000079", "refused 4 0"),
         ("check", "50000001", "refused 4 0"),
     ]);
+    // Two good words changed over: by place they would be a D above H, but their kinds are wrong.
+    refused_by_all("2000006e 1000005a 30000064 40000064 50000000", 2);
+}
+
+#[test]
+fn headings_accepted() {
+    let accepted = [
+        // One price is all that these bands hold between their bounds.
+        [99, 101, 100, 100],
+        [1, 3, 2, 2],
+        [999_998, 1_000_000, 999_999, 999_999],
+        // The last purchase price may lie on a bound or anywhere outside.
+        [90, 110, 90, 100],
+        [90, 110, 1, 100],
+        [90, 110, 1_000_000, 100],
+    ];
+    for prices in accepted {
+        let line = format!("check {} 50000000", head(prices));
+        assert_eq!(answer_line(&line), "accepted", "{line}");
+    }
+}
+
+#[test]
+fn indicative_price_not_between() {
+    let not_between = [
+        // I on D, on H, and one step beyond either.
+        [90, 110, 100, 90],
+        [90, 110, 100, 110],
+        [90, 110, 100, 89],
+        [90, 110, 100, 111],
+        // The ends of the grid are prices of it, so that nothing is wrong but where I lies.
+        [1, 1_000_000, 100, 1],
+        [1, 1_000_000, 100, 1_000_000],
+        [2, 1_000_000, 100, 1],
+        [1, 999_999, 100, 1_000_000],
+        // Neighbours have no price between them.
+        [99, 100, 100, 99],
+        [99, 100, 100, 100],
+        // D above H: I between the two, on either, and on each side of both.
+        [110, 90, 100, 100],
+        [110, 90, 100, 110],
+        [110, 90, 100, 90],
+        [110, 90, 100, 111],
+        [110, 90, 100, 89],
+        // D on H: I with them, and on each side.
+        [100, 100, 100, 100],
+        [100, 100, 100, 101],
+        [100, 100, 100, 99],
+    ];
+    for prices in not_between {
+        let head = head(prices);
+        refused_by_all(&format!("{head} 50000000"), 15);
+        // It comes before all that may be wrong with the count: too many orders, one that is
+        // missing, one too many, a word too many.
+        refused_by_all(&format!("{head} 50000079"), 15);
+        refused_by_all(&format!("{head} 50000001"), 15);
+        refused_by_all(&format!("{head} 50000000 60000000 80000001 90000000"), 15);
+        refused_by_all(&format!("{head} 50000000 60000000"), 15);
+        // And before a faulty order.
+        refused_by_all(&format!("{head} 50000001 50000000 80000000 90000001"), 15);
+        // It comes after the kinds, also that of the count, which stands behind the prices.
+        refused_by_all(&format!("{head} 60000000"), 2);
+        refused_by_all(&format!("0{} 50000000", &head[1..]), 2);
+        // Without the count there is no heading to look at.
+        refused_by_all(&head, 1);
+    }
+}
+
+#[test]
+fn prices_off_the_grid_before_the_band() {
+    let not_on_grid = [
+        // One price alone, which leaves I between the bounds all the same.
+        [0, 110, 100, 100],
+        [90, 1_000_001, 100, 100],
+        [90, 110, 0, 100],
+        [90, 110, 1_000_001, 100],
+        [90, 110, 268_435_455, 100],
+        // One price alone again, which also takes I out of the band; the grid comes first.
+        [1_000_001, 110, 100, 100],
+        [90, 0, 100, 100],
+        [90, 110, 100, 0],
+        [90, 110, 100, 1_000_001],
+        [90, 110, 100, 268_435_455],
+        // Several at once: D < I < H holds in the first as numbers and in no other.
+        [0, 1_000_001, 100, 100],
+        [0, 110, 100, 0],
+        [90, 1_000_001, 100, 1_000_001],
+        [0, 0, 0, 0],
+        // The last purchase price has no part in the order, yet it is looked at before that is:
+        // I on a bound, outside, D above H, all three the same.
+        [90, 110, 0, 90],
+        [90, 110, 1_000_001, 90],
+        [90, 110, 0, 110],
+        [90, 110, 1_000_001, 111],
+        [110, 90, 0, 100],
+        [100, 100, 1_000_001, 100],
+    ];
+    for prices in not_on_grid {
+        let head = head(prices);
+        refused_by_all(&format!("{head} 50000000"), 3);
+        // Also before the count and after the kinds.
+        refused_by_all(&format!("{head} 50000079"), 3);
+        refused_by_all(&format!("{head} 50000000 60000000"), 3);
+        refused_by_all(&format!("{head} 60000000"), 2);
+    }
 }
 
 #[test]

@@ -1,4 +1,4 @@
-//! Faults put into a sheet's words, for every refusal from 1 to 8.
+//! Faults put into a sheet's words, for every refusal from 1 to 8 and for 15.
 
 use crate::random::Random;
 use crate::sheet::{HEADING_WORDS, LAST_PRICE, MOST_PIECES, ORDER_WORDS};

@@ -1,4 +1,4 @@
-//! The refusals by number (01 'Where a refusal arises').
+//! The refusals by number (01 'Where a refusal arises'; 02 (1) for 13 and 14, 02 (2) for 15 and for what 3 means now).
 
 /// `place` says where the fault lies, counted from 0: at which order in refusals 5–8, at which word of its list in all that
 /// the waiting clock refuses word by word (11, 13, 14). It is 0 in all others.
@@ -12,7 +12,7 @@ pub struct Refusal {
 pub const TOO_SHORT: Refusal = Refusal::new(1);
 /// A heading word of a wrong kind.
 pub const HEADING_KIND: Refusal = Refusal::new(2);
-/// A heading price off the grid, or an I that is not strictly between D and H.
+/// A heading price off the grid, be it D, H, the last purchase price or I.
 pub const HEADING_PRICE: Refusal = Refusal::new(3);
 /// More than 120 orders, or not as many words as the count of orders asks for.
 pub const LENGTH: Refusal = Refusal::new(4);
@@ -25,6 +25,8 @@ pub const SPACE: Refusal = Refusal::new(10);
 pub const BAND: Refusal = Refusal::new(11);
 /// Input that does not divide into words, or is longer than the longest sheet.
 pub const INPUT: Refusal = Refusal::new(12);
+/// A heading with an I that is not strictly between D and H.
+pub const HEADING_BAND: Refusal = Refusal::new(15);
 
 /// An order word of a wrong kind.
 pub const ORDER_KIND: u32 = 5;

@@ -155,7 +155,7 @@ pub fn read(words: &[u32], grid: Grid) -> Result<Sheet, Refusal> {
     Ok(sheet)
 }
 
-/// Refusals 1, 2, 3, 4, each over all its words before the next.
+/// Refusals 1, 2, 3, 15, 4 in this order, each over all its words before the next.
 fn read_heading(words: &[u32], grid: Grid) -> Result<Sheet, Refusal> {
     if words.len() < HEADING_WORDS {
         return Err(TOO_SHORT);
@@ -171,7 +171,7 @@ fn read_heading(words: &[u32], grid: Grid) -> Result<Sheet, Refusal> {
     let price = |place: usize| grid.price(value(words[place]).into()).ok_or(HEADING_PRICE);
     let (lower, upper, last_purchase, indicative) = (price(0)?, price(1)?, price(2)?, price(3)?);
     if !(lower < indicative && indicative < upper) {
-        return Err(HEADING_PRICE);
+        return Err(HEADING_BAND);
     }
     let count = value(words[4]) as usize;
     if count > MOST_ORDERS || words.len() != HEADING_WORDS + ORDER_WORDS * count {

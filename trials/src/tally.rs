@@ -30,7 +30,7 @@ const CALLS: [&str; 9] = [
 ];
 
 /// 0, and the numbers of the refusals.
-const NUMBERS: usize = 15;
+const NUMBERS: usize = 16;
 
 #[derive(Default)]
 pub struct Tally {

@@ -71,7 +71,7 @@ sound-heading h grid encloses few =
       count = leb-true _ _ few;
     }
 
--- rows 3 and 4 of a heading that passes, and its length
+-- rows 3, 15 and 4 of a heading that passes, and its length
 pub heading-passes : (ws : List ℕ) → Clear (headingChecks ws)
     → SoundHeading (headingOf ws) × (length ws ≡ orderPlace (headingOf ws .count))
 unfolding headingChecks lengthFits
@@ -79,9 +79,11 @@ heading-passes ws p =
     let after-1 = clear-rest _ _ p in
     let after-2 = clear-rest _ _ after-1 in
     let after-3 = clear-rest _ _ after-2 in
-    let prices = both (not-false _ (clear-row _ _ after-2)) in
-    let fits = both (not-false _ (clear-row _ _ after-3)) in
-    (sound-heading (headingOf ws) (prices .0) (prices .1) (fits .0), eqb-true _ _ (fits .1))
+    let after-15 = clear-rest _ _ after-3 in
+    let prices = not-false _ (clear-row _ _ after-2) in
+    let encloses = not-false _ (clear-row _ _ after-3) in
+    let fits = both (not-false _ (clear-row _ _ after-15)) in
+    (sound-heading (headingOf ws) prices encloses (fits .0), eqb-true _ _ (fits .1))
 
 sound-terms : (disposition limit ignored : ℕ) → termsAllowed disposition limit ≡ true → ignoredAllowed disposition ignored ≡ true
     → SoundTerms (termsOf disposition limit ignored)

@@ -233,17 +233,20 @@ furtherCases =
     ∷ case (stepperLimit (sheet (stepperBuy 7 108 0 ∷ [])) 1) (refuses 9 0)
     ∷ case (curvesAt listing 0) (refuses 9 0)
     ∷ case (curvesAt listing 1000001) (refuses 9 0)
-    -- the listing's sheet is accepted; its first four words alone are too few; I may not be D; a heading of 121
-    -- orders alone is too short, and with all their words there are too many
+    -- the listing's sheet is accepted; its first four words alone are too few; a heading of 121 orders alone is too
+    -- short, and with all their words there are too many
     ∷ case (check listing) (gives [])
     ∷ case (check (0x1000005a ∷ 0x2000006e ∷ 0x30000064 ∷ 0x40000064 ∷ [])) (refuses 1 0)
-    ∷ case (check (0x1000005a ∷ 0x2000006e ∷ 0x30000064 ∷ 0x4000005a ∷ 0x50000000 ∷ [])) (refuses 3 0)
     ∷ case (check (0x1000005a ∷ 0x2000006e ∷ 0x30000064 ∷ 0x40000064 ∷ 0x50000079 ∷ [])) (refuses 4 0)
     ∷ case (check (0x1000005a ∷ 0x2000006e ∷ 0x30000064 ∷ 0x40000064 ∷ 0x50000079 ∷ replicate 363 0)) (refuses 4 0)
     -- a wrong kind comes before a price off the grid; a last purchase price off the grid; a word too many
     ∷ case (check (0x1000005a ∷ 0x2000006e ∷ 0x30000000 ∷ 0x50000064 ∷ 0x50000000 ∷ [])) (refuses 2 0)
     ∷ case (check (0x1000005a ∷ 0x2000006e ∷ 0x30000000 ∷ 0x40000064 ∷ 0x50000000 ∷ [])) (refuses 3 0)
     ∷ case (check (sheet [] ++ (0x60000000 ∷ []))) (refuses 4 0)
+    -- I may not be D, nor H, which comes before a wrong length; a last purchase price off the grid comes before both
+    ∷ case (check (0x1000005a ∷ 0x2000006e ∷ 0x30000064 ∷ 0x4000005a ∷ 0x50000000 ∷ [])) (refuses 15 0)
+    ∷ case (check (0x1000005a ∷ 0x2000006e ∷ 0x30000064 ∷ 0x4000006e ∷ 0x50000001 ∷ [])) (refuses 15 0)
+    ∷ case (check (0x1000005a ∷ 0x2000006e ∷ 0x30000000 ∷ 0x4000005a ∷ 0x50000001 ∷ [])) (refuses 3 0)
     -- the faults of the second order: a disposition of 3, a quantity of 1,000,001, something ignored by a limited order
     ∷ case (check (sheet (buy 4 95 ∷ order 6 3 4 95 0 ∷ []))) (refuses 6 1)
     ∷ case (check (sheet (buy 4 95 ∷ sell 1000001 95 ∷ []))) (refuses 7 1)

@@ -1,4 +1,4 @@
--- Clauses 3.1–3.14 of docs/RULES.md: what a sheet says, and refusals 1–8.
+-- Clauses 3.1–3.14 of docs/RULES.md: what a sheet says, and refusals 1–8 and 15.
 use mathlib.Core.Bool.{Bool, not, _&&_, _||_, cond}
 use mathlib.Core.List.{List, [], _∷_, _++_}
 use mathlib.Core.Path.{_≡_}
@@ -135,12 +135,13 @@ ordersOf ws = listed (orderAt ws) (headingOf ws .count)
 
 -- ---- Where a refusal arises
 
--- [3.12] The heading's rows: too short; kinds; prices; the number of orders and the length.
+-- [3.12] The heading's rows: too short; kinds; prices; the band and I; the number of orders and the length.
 unfoldable pub headingChecks : List ℕ → List Check
 headingChecks ws =
     row 1 (ltb (length ws) headingWords)
     ∷ row 2 (not (headingKinds (wordAt ws 0) (wordAt ws 1) (wordAt ws 2) (wordAt ws 3) (wordAt ws 4)))
-    ∷ row 3 (not (pricesOnGrid (headingOf ws) && bandEncloses (headingOf ws)))
+    ∷ row 3 (not (pricesOnGrid (headingOf ws)))
+    ∷ row 15 (not (bandEncloses (headingOf ws)))
     ∷ row 4 (not (lengthFits (headingOf ws .count) (length ws)))
     ∷ []
 

@@ -115,8 +115,10 @@ pub enum Refusal {
     FewWords,
     // A wrong kind in words 0 to 4.
     HeadingKind,
-    // A price off the grid, or I not between D and H.
+    // A price off the grid.
     HeadingPrice,
+    // I not strictly between D and H.
+    HeadingBand,
     // More than 120 orders, or a wrong length.
     Length,
     // A fault of the order of this number.
@@ -167,6 +169,7 @@ impl Refusal {
             Refusal::FewWords => 1,
             Refusal::HeadingKind => 2,
             Refusal::HeadingPrice => 3,
+            Refusal::HeadingBand => 15,
             Refusal::Length => 4,
             Refusal::Order(fault, _) => fault.number(),
             Refusal::Argument => 9,
@@ -185,6 +188,7 @@ impl Refusal {
             Refusal::FewWords => 0,
             Refusal::HeadingKind => 0,
             Refusal::HeadingPrice => 0,
+            Refusal::HeadingBand => 0,
             Refusal::Length => 0,
             Refusal::Order(_, order) => order,
             Refusal::Argument => 0,

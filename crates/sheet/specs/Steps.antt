@@ -1,5 +1,5 @@
 -- The steps of the reading, for the promises inside this crate: what each finds, in the terms of the rules. Serves [3.12] and [3.13].
-use mathlib.Core.Bool.{Bool, not, _&&_}
+use mathlib.Core.Bool.{Bool, not}
 use mathlib.Core.List.{List, []}
 use mathlib.Core.Path.{_≡_}
 use Prim.Native.Nat.{ℕ, _+_}
@@ -37,12 +37,15 @@ headingWordsOf ws = record {
   next = record { at = headingWords };
 }
 
--- What refusals 2, 3 and 4 look for, in the words and in the heading that were read.
+-- What refusals 2, 3, 15 and 4 look for, in the words and in the heading that were read.
 abbrev pub wrongKinds : HeadingWords → Bool
 wrongKinds f = not (headingKinds (f .lower) (f .upper) (f .last) (f .indicative) (f .count))
 
 abbrev pub wrongPrices : Heading → Bool
-wrongPrices h = not (pricesOnGrid h && bandEncloses h)
+wrongPrices h = not (pricesOnGrid h)
+
+abbrev pub wrongBand : Heading → Bool
+wrongBand h = not (bandEncloses h)
 
 abbrev pub wrongLength : ℕ → Heading → Bool
 wrongLength words h = not (lengthFits (h .count) words)

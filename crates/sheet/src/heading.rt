@@ -1,9 +1,9 @@
-// The heading of a sheet, words 0 to 4, and its checks, refusals 1 to 4.
+// The heading of a sheet, words 0 to 4, and its checks, refusals 1 to 4 and 15.
 ghost use mathlib.Core.Path.{_≡_};
 ghost use Prim.Native.Nat.{_≤_};
 ghost use lib.ListN.{length};
 ghost use Rattle.rules.specs.Sheet.{headingWords, headingFrom};
-ghost use Rattle.sheet.specs.Steps.{headingWordsOf, wrongKinds, wrongPrices, wrongLength, HeadingReadsAs};
+ghost use Rattle.sheet.specs.Steps.{headingWordsOf, wrongKinds, wrongPrices, wrongBand, wrongLength, HeadingReadsAs};
 use crate::HEADING_WORDS;
 use crate::ORDER_WORDS;
 use rules::Heading;
@@ -77,15 +77,21 @@ fn heading_from(five: HeadingWords) -> Heading
     }
 }
 
-// Refusal 3, by clauses 3.3 and 3.4.
+// Refusal 3, by clause 3.3.
 fn wrong_prices(heading: Heading) -> bool
     ensures { λ r. ⌜ r ≡ wrongPrices heading ⌝ }
 {
-    let grid = on_grid(heading.lower.0)
+    !(on_grid(heading.lower.0)
         & on_grid(heading.upper.0)
         & on_grid(heading.last.0)
-        & on_grid(heading.indicative.0);
-    !(grid & ((heading.lower.0 < heading.indicative.0) & (heading.indicative.0 < heading.upper.0)))
+        & on_grid(heading.indicative.0))
+}
+
+// Refusal 15, by clause 3.4.
+fn wrong_band(heading: Heading) -> bool
+    ensures { λ r. ⌜ r ≡ wrongBand heading ⌝ }
+{
+    !((heading.lower.0 < heading.indicative.0) & (heading.indicative.0 < heading.upper.0))
 }
 
 // Refusal 4, by clause 3.5.
@@ -110,12 +116,16 @@ pub(crate) fn read_heading(words: &[u32]) -> HeadingRead
     let heading = heading_from(five);
     let kinds = wrong_kinds(five);
     let prices = wrong_prices(heading);
+    let band = wrong_band(heading);
     let length = wrong_length(heading, words.len());
     if kinds {
         return HeadingRead::Refused(Refusal::HeadingKind);
     }
     if prices {
         return HeadingRead::Refused(Refusal::HeadingPrice);
+    }
+    if band {
+        return HeadingRead::Refused(Refusal::HeadingBand);
     }
     if length {
         return HeadingRead::Refused(Refusal::Length);

@@ -1,6 +1,6 @@
--- `wrong_prices` meets its contract: its test is that of the definitions, with what `on_grid` ensures of each price.
+-- `wrong_prices` meets its contract: its test is that of the definition, with what `on_grid` ensures of each price.
 use borrow.Author.Needs.{needs}
-use Rattle.rules.specs.Sheet.{pricesOnGrid, bandEncloses}
+use Rattle.rules.specs.Sheet.{pricesOnGrid}
 use Rattle.sheet.proofs.heading.wrong_prices.Statement.{statement}
 use Rattle.sheet.proofs.heading.wrong_prices.Tie as tie
 
@@ -17,8 +17,8 @@ on-grid-requires-4 : tie.Need-on-grid-requires-4
 on-grid-requires-4 c κs = search needs
 
 returns : tie.Need-returns
-unfolding pricesOnGrid bandEncloses
-returns c = simp (c .before .before .before .before .before .on-grid .ensures, c .before .before .before .before .on-grid2 .ensures, c .before .before .before .on-grid3 .ensures, c .before .before .on-grid4 .ensures)
+unfolding pricesOnGrid
+returns c = simp (c .before .before .before .on-grid .ensures, c .before .before .on-grid2 .ensures, c .before .on-grid3 .ensures, c .on-grid4 .ensures)
 
 pub wrong-prices-spec : {M : Type 1} → statement M
 wrong-prices-spec =
