@@ -20,7 +20,7 @@
  *     sheet   kind 1    D
  *                  2    H
  *                  3    last purchase price, in the band or not
- *                  4    I, the indicative price, strictly between D and H
+ *                  4    I, the indicative price, above D and below H
  *                  5    n
  *     order   kind 6    a buy, or 7 a sell: the lower 24 bits its limit, in the band or not, or 0 for none, which counts
  *                       as H for a buy and D for a sell; the 4 bits above them its disposition: 0 basic, 1 all-or-none,
@@ -68,12 +68,12 @@
  *     11  a band that cannot be had
  *     13  a word of a waiting list that has none of the kinds 1 to 4, or a value that its kind may not have
  *     14  a second of a waiting list that is lower than the one before it
- *     15  I not strictly between D and H, in a heading whose prices are all on the grid
+ *     15  D not below I, or I not below H, in a heading whose prices are all on the grid
  *
  * The first fault is the answer. They are judged in this order: of the heading 1, 2, 3, 15, 4, each over all its words before
  * the next; then of each order in turn 5 to 8, likewise; then 9; then of each word of a waiting list in turn 13, 14, 11; last
- * 10, or 11 where a band is all that is asked for. Those of heading and orders are below called the refusals of a sheet. (12 is
- * of the opening program alone, for bytes that are no list of words.)
+ * 10, or 11 where a band is all that is asked for. Those of heading and orders, 1 to 8 and 15, are the refusals of a sheet. (12
+ * is of the opening program alone, for bytes that are no list of words.)
  *
  * What a caller owes. No call can check these, and if one of them fails, nothing is promised:
  *

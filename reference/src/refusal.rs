@@ -25,7 +25,7 @@ pub const SPACE: Refusal = Refusal::new(10);
 pub const BAND: Refusal = Refusal::new(11);
 /// Input that does not divide into words, or is longer than the longest sheet.
 pub const INPUT: Refusal = Refusal::new(12);
-/// A heading with an I that is not strictly between D and H.
+/// A heading in which D < I < H fails.
 pub const HEADING_BAND: Refusal = Refusal::new(15);
 
 /// An order word of a wrong kind.

@@ -243,7 +243,7 @@ furtherCases =
     ∷ case (check (0x1000005a ∷ 0x2000006e ∷ 0x30000000 ∷ 0x50000064 ∷ 0x50000000 ∷ [])) (refuses 2 0)
     ∷ case (check (0x1000005a ∷ 0x2000006e ∷ 0x30000000 ∷ 0x40000064 ∷ 0x50000000 ∷ [])) (refuses 3 0)
     ∷ case (check (sheet [] ++ (0x60000000 ∷ []))) (refuses 4 0)
-    -- I may not be D, nor H, which comes before a wrong length; a last purchase price off the grid comes before both
+    -- I at D; I at H, which comes before a wrong length; a last purchase price off the grid, which comes before I at D
     ∷ case (check (0x1000005a ∷ 0x2000006e ∷ 0x30000064 ∷ 0x4000005a ∷ 0x50000000 ∷ [])) (refuses 15 0)
     ∷ case (check (0x1000005a ∷ 0x2000006e ∷ 0x30000064 ∷ 0x4000006e ∷ 0x50000001 ∷ [])) (refuses 15 0)
     ∷ case (check (0x1000005a ∷ 0x2000006e ∷ 0x30000000 ∷ 0x4000005a ∷ 0x50000001 ∷ [])) (refuses 3 0)

@@ -64,7 +64,7 @@ I h = h .indicative .0
 unfoldable pub pricesOnGrid : Heading → Bool
 pricesOnGrid h = onGrid (h .lower .0) && onGrid (h .upper .0) && onGrid (h .last .0) && onGrid (h .indicative .0)
 
--- [3.4] I is strictly between the bounds.
+-- [3.4] D is below I, and I below H.
 unfoldable pub bandEncloses : Heading → Bool
 bandEncloses h = ltb (h .lower .0) (h .indicative .0) && ltb (h .indicative .0) (h .upper .0)
 

@@ -117,7 +117,7 @@ pub enum Refusal {
     HeadingKind,
     // A price off the grid.
     HeadingPrice,
-    // I not strictly between D and H.
+    // D not below I, or I not below H.
     HeadingBand,
     // More than 120 orders, or a wrong length.
     Length,
