@@ -15,10 +15,11 @@ enum { LINE_BYTES = 16384, MOST_WORDS = 2000, MOST_NUMBERS = 5, STACK = 1 << 20,
 static char line[LINE_BYTES];
 static uint32_t words[MOST_WORDS];
 static uint32_t space[AUCTION_OPENING_WORDS + 1000];
+static uint64_t fees[AUCTION_FEE_PLACES + 8];
 static uint64_t numbers[MOST_NUMBERS];
 
-/* A number that a parameter of 32 bits cannot hold is handed on as the largest that it can: that is no price, code or side
- * either. */
+/* A number that a parameter of 32 bits cannot hold is handed on as the largest that it can: that is no price, code, side
+ * or figure of a tariff either. */
 static uint32_t narrow(uint64_t number) {
     return number > UINT32_MAX ? UINT32_MAX : (uint32_t)number;
 }
@@ -49,13 +50,30 @@ static void print_curves(struct auction_curves reply) {
     }
 }
 
+static void print_words(size_t count) {
+    for (size_t i = 0; i < count; i++) {
+        printf("%s%08" PRIx32, i > 0 ? " " : "", space[i]);
+    }
+}
+
 static void print_space(struct auction_space reply) {
+    if (answers(reply.refusal, reply.order)) {
+        print_words(reply.count);
+        puts("");
+    }
+}
+
+/* The words, then a fee for each order of the sheet, which has been accepted. */
+static void print_fees(struct auction_space reply) {
     if (!answers(reply.refusal, reply.order)) {
         return;
     }
-    for (size_t i = 0; i < reply.count; i++) {
-        printf("%08" PRIx32 "%c", space[i], i + 1 < reply.count ? ' ' : '\n');
+    print_words(reply.count);
+    printf(" fees");
+    for (size_t k = 0; k < (words[4] & 0xfffffff); k++) {
+        printf(" %" PRIu64, fees[k]);
     }
+    puts("");
 }
 
 static void print_band(struct auction_band reply) {
@@ -89,10 +107,15 @@ static size_t read_words(void) {
     return count;
 }
 
-/* The words of the space that a line lends, no more than there are. */
-static size_t room(void) {
+/* So many words of the space, or places of the fee list, as a line lends, no more than there are. */
+static size_t room(uint64_t lent) {
     size_t whole = sizeof space / sizeof *space;
-    return numbers[0] < whole ? (size_t)numbers[0] : whole;
+    return lent < whole ? (size_t)lent : whole;
+}
+
+static size_t places(uint64_t lent) {
+    size_t whole = sizeof fees / sizeof *fees;
+    return lent < whole ? (size_t)lent : whole;
 }
 
 static int answer_on_sheet(const char *call) {
@@ -100,16 +123,19 @@ static int answer_on_sheet(const char *call) {
         print_sheet(auction_check(words, read_words()));
         return 1;
     }
-    read_numbers(1);
+    read_numbers(strcmp(call, "fees") == 0 ? 5 : 1);
     size_t count = read_words();
-    if (strcmp(call, "stepper") == 0) {
+    if (strcmp(call, "fees") == 0) {
+        print_fees(auction_opening_fees(words, count, narrow(numbers[0]), narrow(numbers[1]), narrow(numbers[2]), space,
+                                        room(numbers[3]), fees, places(numbers[4])));
+    } else if (strcmp(call, "stepper") == 0) {
         print_price(auction_stepper_limit(words, count, (size_t)numbers[0]));
     } else if (strcmp(call, "curves") == 0) {
         print_curves(auction_curves_at(words, count, narrow(numbers[0])));
     } else if (strcmp(call, "round") == 0) {
-        print_space(auction_first_round(words, count, space, room()));
+        print_space(auction_first_round(words, count, space, room(numbers[0])));
     } else if (strcmp(call, "opening") == 0) {
-        print_space(auction_opening(words, count, space, room()));
+        print_space(auction_opening(words, count, space, room(numbers[0])));
     } else {
         return 0;
     }

@@ -12,7 +12,7 @@
  *
  * Numbers. A price counts steps of ten hellers, tenths of a crown; the grid is the prices from 1 to 1,000,000. A band is
  * two prices of the grid, the lower bound D below the upper bound H, and both belong to it. An order has a quantity of 1
- * to 1,000,000 pieces; orders are numbered from 0, as they stand on the sheet.
+ * to 1,000,000 pieces; orders are numbered from 0, as they stand on the sheet. Fees are in hellers, a hundred to a crown.
  *
  * Words. A word is 32 bits: its kind in the upper 4, its value in the lower 28. A sheet is 5 + 3n words, for n orders from
  * none to 120. A result is the words of its rounds one after the other, 4 + n each, and a last word.
@@ -50,10 +50,10 @@
  * A Stepper stands one step ahead of its rivals, the other orders of its side, as far as its own limit lets it: that is its
  * limit in force.
  *
- * Answers. Every record begins with `refusal`: 0 where the call answers, else the number of the refusal, and then all that
- * the call would give is 0. For refusals 5 to 8 `order` is the number of the order at fault; else it is 0 and means nothing.
- * The record of the waiting clock has `place` instead: for refusals 11, 13 and 14 which word of the list is at fault, counted
- * from 0; else it is 0 and means nothing.
+ * Answers. Every record begins with `refusal`: 0 where the call answers, else the number of the refusal. Then all numbers
+ * of the record that the call would give are 0, and lent lists keep what they held. For refusals 5 to 8 `order` is the
+ * number of the order at fault; else it is 0 and means nothing. The record of the waiting clock has `place` instead: for
+ * refusals 11, 13 and 14 which word of the list is at fault, counted from 0; else it is 0 and means nothing.
  *
  *      1  a sheet of fewer than 5 words
  *      2  a word of a wrong kind in the heading, the first 5 words
@@ -64,24 +64,25 @@
  *      7  a quantity of 0 or above 1,000,000
  *      8  an ignored quantity above 1,000,000, or not 0 in an order that is no Stepper
  *      9  an argument that is not allowed
- *     10  too few words in the lent space
+ *     10  too few words in the lent space, or too few places in the lent fee list; which of the two is not said
  *     11  a band that cannot be had
  *     13  a word of a waiting list that has none of the kinds 1 to 4, or a value that its kind may not have
  *     14  a second of a waiting list that is lower than the one before it
  *     15  D not below I, or I not below H, in a heading whose prices are all on the grid
+ *     16  a rate above 10,000, a least or greatest fee above 100,000,000, a least fee above the greatest
  *
- * The first fault is the answer. They are judged in this order: of the heading 1, 2, 3, 15, 4, each over all its words before
- * the next; then of each order in turn 5 to 8, likewise; then 9; then of each word of a waiting list in turn 13, 14, 11; last
- * 10, or 11 where a band is all that is asked for. Those of heading and orders, 1 to 8 and 15, are the refusals of a sheet. (12
- * is of the opening program alone, for bytes that are no list of words.)
+ * The first fault is the answer. They are judged in this order: of the heading 1, 2, 3, 15, 4, each over all its words
+ * before the next; then of each order in turn 5 to 8, likewise; then 9 or 16; then of each word of a waiting list in turn
+ * 13, 14, 11; last 10, or 11 where a band is all that is asked for. Those of heading and orders, 1 to 8 and 15, are the
+ * refusals of a sheet. (12 is of the opening program alone, for bytes that are no list of words.)
  *
  * What a caller owes. No call can check these, and if one of them fails, nothing is promised:
  *
- * - `words` points to `count` words and `space` to `room` words. Both are aligned to 4 bytes and never null; for a list of
- *   no words any such pointer will do.
- * - `words` and `space` do not overlap.
- * - While a call runs no other thread writes `words`, and none reads or writes `space`. Apart from that calls may run in
- *   any number of threads at once: the library keeps nothing between two calls.
+ * - `words` points to `count` words and `space` to `room` words, both aligned to 4 bytes, and `fees` to `places` numbers of 64
+ *   bits, aligned to 8. None is ever null: for a list of nothing, too, any aligned pointer will do that is not null.
+ * - `words`, `space` and `fees` do not overlap.
+ * - While a call runs no other thread writes `words`, and none reads or writes `space` or `fees`. Apart from that calls may
+ *   run in any number of threads at once: the library keeps nothing between two calls.
  * - There are AUCTION_STACK_BYTES of stack left for the call.
  * - Numbers arrive as they were meant: C and C++ turn one that is too wide or negative into another without a word. Compile
  *   with -Wconversion and -Wsign-conversion, and refuse a number that is too large for its parameter yourself.
@@ -103,6 +104,9 @@ extern "C" {
 #define AUCTION_SHEET_WORDS 365
 #define AUCTION_ROUND_WORDS 124
 #define AUCTION_OPENING_WORDS 15005
+
+/* Places of a fee list that are always enough: an opening with fees asks for one for each order. */
+#define AUCTION_FEE_PLACES 120
 
 /* What a call may take of the stack. The most that was measured is a third of it. */
 #define AUCTION_STACK_BYTES 65536
@@ -165,6 +169,23 @@ struct auction_curves auction_curves_at(const uint32_t *words, size_t count, uin
  * Refusals: those of a sheet; 10 if `room` is less than the words asked for. */
 struct auction_space auction_first_round(const uint32_t *words, size_t count, uint32_t *space, size_t room);
 struct auction_space auction_opening(const uint32_t *words, size_t count, uint32_t *space, size_t room);
+
+/* The whole opening, as auction_opening writes and answers it, and what each order pays by a tariff, which holds for all
+ * orders: buyer and seller each pay their own fee. The fees, in hellers, are written from the start of `fees`, n of them, n
+ * being the value of the sheet's word of kind 5: the fee of order k stands at place k. All other places, and after a refusal
+ * all of them, keep what they held. The record counts the words alone.
+ *
+ * `rate` is in ten-thousandths: 35 is 0.35 percent, 10,000 the whole worth. In each round an order's fill of one piece or more
+ * is worth pieces x purchase price x 10 hellers; the price is in the round's word of kind 12, not in that of kind 11. The fee of
+ * that fill is (worth x rate + 5,000) / 10,000, rounded down, then raised to `least` or cut to `greatest`. A fill of 0 costs
+ * nothing, also where `least` is above 0. An order pays the sum over all rounds, each rounded and bounded by itself. Whoever
+ * works this out again needs 64 bits: a worth is at most 10^13 and worth x rate 10^17, and an order pays at most
+ * 12,100,000,000, the greatest fee in each of 121 rounds.
+ *
+ * Refusals: those of a sheet; 16 if `rate` is above 10,000, `least` or `greatest` above 100,000,000, or `least` above
+ * `greatest`; 10 if `room` is less than an opening asks for or `places` is less than n. */
+struct auction_space auction_opening_fees(const uint32_t *words, size_t count, uint32_t rate, uint32_t least,
+                                          uint32_t greatest, uint32_t *space, size_t room, uint64_t *fees, size_t places);
 
 /* The indicative price. If any pieces were traded it is the closing purchase price as it is; else the last auction price,
  * moved to the nearer bound if it is outside the band. 9 if the bounds are no band, or the price that is used is off the grid

@@ -22,6 +22,9 @@ pub const SHEET_WORDS: usize = 365;
 pub const ROUND_WORDS: usize = 124;
 pub const OPENING_WORDS: usize = 15005;
 
+/// Places of a fee list that are always enough: an opening with fees asks for one for each order.
+pub const FEE_PLACES: usize = 120;
+
 /// What a call may take of the stack. The most that was measured is a third of it.
 pub const STACK_BYTES: usize = 65536;
 
@@ -68,6 +71,17 @@ pub struct Curves {
 pub struct Band {
     pub lower: u32,
     pub upper: u32,
+}
+
+/// What is charged for a fill. 16 if a figure is too large, or the least fee above the greatest.
+#[derive(Clone, Copy, Debug, PartialEq, Eq)]
+pub struct Tariff {
+    /// In ten-thousandths of the worth, at most 10,000.
+    pub rate: u32,
+    /// The least fee of each fill, so of each round in which an order gets pieces, in hellers, at most 100,000,000.
+    pub least: u32,
+    /// The greatest fee of each fill, likewise.
+    pub greatest: u32,
 }
 
 /// A waiting phase: the second of the day at which it started, and the side of its latest round, 0 above the band and 1 below.
@@ -159,6 +173,17 @@ pub mod raw {
             space: *mut u32,
             room: usize,
         ) -> SpaceReply;
+        pub fn auction_opening_fees(
+            words: *const u32,
+            count: usize,
+            rate: u32,
+            least: u32,
+            greatest: u32,
+            space: *mut u32,
+            room: usize,
+            fees: *mut u64,
+            places: usize,
+        ) -> SpaceReply;
         pub fn auction_indicative_price(
             lower: u32,
             upper: u32,
@@ -187,7 +212,7 @@ fn answered<T>(refusal: u32, order: usize, value: T) -> Result<T, Refusal> {
     }
 }
 
-// Each unsafe line below is sound: a slice is what the library asks of a pointer and a count, a space lent as `&mut` overlaps
+// Each unsafe line below is sound: a slice is what the library asks of a pointer and a count, a space or fee list lent as `&mut` overlaps
 // nothing and is seen by nobody else, and the library's functions touch every page of the stack that they take, one after the
 // other, so that too small a stack is met at its guard page.
 
@@ -230,6 +255,34 @@ pub fn opening<'a>(words: &[u32], space: &'a mut [u32]) -> Result<&'a [u32], Ref
         raw::auction_opening(words.as_ptr(), words.len(), space.as_mut_ptr(), space.len())
     };
     answered(reply.refusal, reply.order, &space[..reply.count])
+}
+
+/// The words of the opening, likewise, and then the n fees by a tariff, in hellers, the fee of order k at place k; they now stand at the
+/// start of the fee list. The other places of the list keep what they held, and space and list all of it where the call refuses. How a
+/// fee is worked out is said in boxashewu.h, at auction_opening_fees. Refusals: those of a sheet; 16 if the tariff is not allowed; 10 if
+/// the space has fewer than (n + 1) × (n + 4) + 1 words or the list fewer than n places.
+pub fn opening_fees<'a, 'b>(
+    words: &[u32],
+    tariff: Tariff,
+    space: &'a mut [u32],
+    fees: &'b mut [u64],
+) -> Result<(&'a [u32], &'b [u64]), Refusal> {
+    let reply = unsafe {
+        raw::auction_opening_fees(
+            words.as_ptr(),
+            words.len(),
+            tariff.rate,
+            tariff.least,
+            tariff.greatest,
+            space.as_mut_ptr(),
+            space.len(),
+            fees.as_mut_ptr(),
+            fees.len(),
+        )
+    };
+    answered(reply.refusal, reply.order, ())?;
+    let orders = (words[4] & 0xfff_ffff) as usize;
+    Ok((&space[..reply.count], &fees[..orders]))
 }
 
 /// The closing purchase price as it is if any pieces were traded, else the last auction price moved into the band. 9 if the bounds

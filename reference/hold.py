@@ -5,7 +5,8 @@
 
 Random calls are made and answered by the reference implementation: COUNT whole openings, and a third as many of each other
 call on a sheet, of the band's calls together and of the waiting clock. A scratch crate outside the project then states, for each, that the rules
-answer the same, and the checker proves it. An answer that differs leaves the scratch crate unproved.
+answer the same, and of an opening with fees also that the fees on its words are the same; the checker proves it. An answer that differs
+leaves the scratch crate unproved.
 """
 import os
 import re
@@ -35,8 +36,9 @@ def imports_and_names():
     lines = [line for line in proof.splitlines() if line.startswith("use Rattle·") and ".Cases." not in line]
     for ours, theirs in own.items():
         lines = [line.replace(ours, theirs) for line in lines]
-    names = re.search(r"^unfolding allSame same sameNumbers documentCases furtherCases waitingCases (.*)$", proof, re.M).group(1)
-    return lines, names
+    names = re.search(r"^unfolding allSame same sameNumbers documentCases furtherCases waitingCases feeCases (.*)$", proof, re.M)
+    charged = re.search(r"^unfolding charges (.*)$", proof, re.M)
+    return lines, names.group(1), charged.group(1)
 
 
 def words(texts):
@@ -50,7 +52,7 @@ def numbers(texts):
 
 # The calls that take a number and a sheet, by their names in the rules. The protocol puts the number first, the rules last.
 ON_A_SHEET = {"stepper": "stepperLimit", "curves": "curvesAt", "round": "firstRound", "opening": "opening"}
-ANSWERED_IN_WORDS = ("round", "opening")
+ANSWERED_IN_WORDS = ("round", "opening", "fees")
 
 
 def call(line):
@@ -59,13 +61,15 @@ def call(line):
         return f"check ({words(parts)})"
     if name in ON_A_SHEET:
         return f"{ON_A_SHEET[name]} ({words(parts[1:])}) {parts[0]}"
+    if name == "fees":
+        return f"openingFees ({words(parts[5:])}) (tariffOf {' '.join(parts[:3])}) {parts[3]} {parts[4]}"
     if name == "waiting":
         return f"waiting {parts[0]} {parts[1]} ({words(parts[2:])})"
     return " ".join([name, *parts])
 
 
 def document(line, answer):
-    said = answer.split()
+    said = answer.split(" fees")[0].split()
     if said[0] == "refused":
         return f"refuses {said[1]} {said[2]}"
     if said[0] == "accepted":
@@ -74,26 +78,39 @@ def document(line, answer):
     return f"gives ({spelled(said)})"
 
 
+def rows_of(line, answer):
+    """What is stated of a line: its answer, and where fees are given, that they are those on the words."""
+    rows = [f"case ({call(line)}) ({document(line, answer)})"]
+    if " fees" in answer:
+        parts, (given, fees) = line.split()[1:], answer.split(" fees")
+        rows.append(f"charge (tariffOf {' '.join(parts[:3])}) ({words(parts[5:])}) ({words(given.split())}) ({numbers(fees.split())})")
+    return rows
+
+
 def vectors(rows):
     """A file that states and proves some rows, each by itself."""
-    lines, names = imports_and_names()
+    lines, names, charged = imports_and_names()
     text = [
         "use mathlib.Core.List.{List, [], _∷_}",
         "use mathlib.Core.Path.{refl}",
         *lines,
         "use Rattle.rules.proofs.Cases.{sameNumbers, same, allSame, all-same}",
-        "use Rattle.rules.specs.Cases.{Case, case, AllHold}",
-        "use Rattle.rules.specs.Calls.{check, stepperLimit, curvesAt, firstRound, opening, indicative, next, widen, waiting}",
+        "use Rattle.rules.specs.Cases.{Case, case, AllHold, Charge, charge, AllCharge}",
+        "use Rattle.rules.specs.Calls.{check, stepperLimit, curvesAt, firstRound, opening, openingFees, indicative, next, widen, waiting}",
+        "use Rattle.rules.specs.Fees.{tariffOf}",
     ]
+    kinds = {"case": ("Case", "AllHold", f"allSame same sameNumbers {names}", "all-same row{} refl"),
+             "charge": ("Charge", "AllCharge", charged, "(refl, tt)")}
     for number, row in enumerate(rows):
+        kind, statement, unfolded, proof = kinds[row.split()[0]]
         text += [
             "",
-            f"abbrev pub row{number} : List Case",
+            f"abbrev pub row{number} : List {kind}",
             f"row{number} = {row} ∷ []",
             "",
-            f"pub agree{number} : AllHold row{number}",
-            f"unfolding allSame same sameNumbers {names}",
-            f"agree{number} = all-same row{number} refl",
+            f"pub agree{number} : {statement} row{number}",
+            f"unfolding {unfolded}",
+            f"agree{number} = {proof.format(number)}",
         ]
     return "\n".join(text) + "\n"
 
@@ -128,6 +145,9 @@ def coverage(lines, answers):
         elif line.startswith("opening"):
             seen.update(orders_of([int(word, 16) for word in line.split()[2:]]))
             seen.update(rounds_of([int(word, 16) for word in answer.split()]))
+        elif line.startswith("fees"):
+            fees = [int(fee) for fee in answer.split(" fees")[1].split()]
+            seen[f"openings with fees in which {'an order pays' if any(fees) else 'nobody pays'}"] += 1
         elif line.startswith("waiting"):
             phase, *_, due = answer.split()
             seen.update([f"waiting lists to a phase {'that is on' if phase == '1' else 'that is over, or to none'}",
@@ -162,14 +182,21 @@ def rounds_of(result):
 
 
 def random_lines(count, seed):
-    """Whole openings of small sheets, a third as many first rounds of others, at times in a space one word short, and as many
-    of each other call on a sheet, of the band's calls together and of the waiting clock."""
+    """Whole openings of small sheets, a third as many first rounds of others, at times in a space one word short, as many openings
+    with fees of others again, by random tariffs and at times in a list one place short, and as many of each other call on a sheet,
+    of the band's calls together and of the waiting clock."""
     some = max(int(count) // 3, 1)
     lines = reference("sheets", "small", count, seed)
     for number, line in enumerate(reference("sheets", "small", str(some), seed + "1")):
         _, _, *sheet = line.split()
         short = number % 8 == 0
         lines.append(" ".join(["round", str(4 + (len(sheet) - 5) // 3 - short), *sheet]))
+    tariffs = [line.split()[1:4] for line in reference("sheets", "fees", str(some), seed)]
+    for number, (line, tariff) in enumerate(zip(reference("sheets", "small", str(some), seed + "2"), tariffs)):
+        _, space, *sheet = line.split()
+        orders = (len(sheet) - 5) // 3
+        short = number % 8 == 0 and orders > 0
+        lines.append(" ".join(["fees", *tariff, space, str(orders - short), *sheet]))
     for kind in ("check", "stepper", "curves", "band", "waiting"):
         made = reference("sheets", kind, str(8 * some), seed)
         lines += [line for line in made if len(line.split()) <= MOST_WORDS + 2][:some]
@@ -183,7 +210,7 @@ def main():
     answers = reference("calls", text="\n".join(lines) + "\n")
     assert len(lines) == len(answers)
     with tempfile.TemporaryDirectory() as folder:
-        scratch_crate(folder, [f"case ({call(line)}) ({document(line, answer)})" for line, answer in zip(lines, answers)])
+        scratch_crate(folder, [row for line, answer in zip(lines, answers) for row in rows_of(line, answer)])
         checked = subprocess.run(["rt", "check", "vectors"], cwd=folder, capture_output=True, text=True)
         said = checked.stdout + checked.stderr
     for what, number in sorted(coverage(lines, answers).items()):

@@ -9,7 +9,9 @@ to the file ANSWERS, each under a line that says where they are from. Of small f
 of each other, of small openings with each ending 120 of one round, 240 of two and 300 of three or more, of large ones 40 of up
 to 9 rounds, 3 of 10 and more and 3 of 60, and of both calls 40 for which the space is too small. Of waiting lists it takes 24 of
 up to 60 words and 4 of more for each of 0, 1, 2 to 9 and more openings due, with a phase that is on and with none, and 24 of each
-refusal.
+refusal. Of small openings with fees it takes, where an order is charged, 60 of one round, 60 of two and 60 of three or more, where
+none is, 20; of large ones 10 of up to 9 rounds, 2 of 10 and more, and 2 in which an order's fee needs more than 32 bits; and 24 for
+which the tariff is not allowed and 24 for which a space is too small.
 """
 import collections
 import pathlib
@@ -27,17 +29,21 @@ def reference(*words, given=None):
     return subprocess.run(command, input=given, capture_output=True, text=True, check=True).stdout
 
 
-count = {"round": "12000", "opening": "20000"}.get(kind, "3000")
+count = {"round": "12000", "opening": "20000", "fees": "12000"}.get(kind, "3000")
 lines = reference("sheets", kind, count, seed)
 answers = reference("calls", given=lines).splitlines()
 
+ROUNDS = ("1 round", "2 rounds", "3 rounds and more")
 MOST = {"small": 200, "large": 40}
 if kind == "round":
     MOST = {"situation 0": 400, "large": 40, "10": 40} | {f"situation {s}": 160 for s in range(1, 5)}
 if kind == "opening":
-    small = {"1 round": 120, "2 rounds": 240, "3 rounds and more": 300}
+    small = dict(zip(ROUNDS, (120, 240, 300)))
     MOST = {f"{sort}, ending {e}": most for sort, most in small.items() for e in range(3)}
     MOST |= {"large": 40, "large, 10 rounds and more": 3, "large, 60 rounds": 3, "10": 40}
+if kind == "fees":
+    MOST = {f"{rounds}, charged": 60 for rounds in ROUNDS} | {"not charged": 20}
+    MOST |= {"large": 10, "large, 10 rounds and more": 2, "large, beyond 32 bits": 2, "10": 24, "16": 24}
 if kind == "waiting":
     MOST = {f"{size}, phase {phase}, {due} due": most for size, most in {"short": 24, "long": 4}.items()
             for phase in (0, 1) for due in ("0", "1", "2 to 9", "more")}
@@ -46,18 +52,32 @@ LONGEST = 4096
 
 
 def small_sort(answer):
-    """What a line of up to 30 orders is picked as: a first round by its situation, an opening by rounds and ending."""
+    """What a line of up to 30 orders is picked as: a first round by its situation, an opening by rounds and ending, one with
+    fees by rounds and whether anything is charged."""
     words = answer.split()
     if kind == "round":
         return f"situation {int(words[0], 16) % 16}"
     if kind == "opening":
         ending, rounds = divmod(int(words[-1], 16) % 2**28, 2**16)
-        return f"{('1 round', '2 rounds', '3 rounds and more')[min(rounds, 3) - 1]}, ending {ending}"
+        return f"{ROUNDS[min(rounds, 3) - 1]}, ending {ending}"
+    if kind == "fees":
+        last, fees = last_word_and_fees(words)
+        return f"{ROUNDS[min(last % 2**16, 3) - 1]}, charged" if any(fees) else "not charged"
     return "small"
+
+
+def last_word_and_fees(words):
+    """Of the answer to an opening with fees: the last word of the result, and the fees behind the word that parts them from it."""
+    end = words.index("fees")
+    return int(words[end - 1], 16), [int(fee) for fee in words[end + 1:]]
 
 
 def large_sort(answer):
     """What a line of 100 orders and more is picked as."""
+    if kind == "fees":
+        last, fees = last_word_and_fees(answer.split())
+        few = "large" if last % 2**16 < 10 else "large, 10 rounds and more"
+        return "large, beyond 32 bits" if max(fees) >= 2**32 else few
     rounds = int(answer.split()[-1], 16) % 2**16 if kind == "opening" else 1
     return "large" if rounds < 10 else "large, 60 rounds" if rounds == 60 else "large, 10 rounds and more"
 
@@ -75,7 +95,7 @@ def sort_of(line, answer):
     """What a line is picked as: a refusal's number, a sort of small or of large, or None."""
     if kind == "waiting":
         return waiting_sort(line, answer)
-    words = line.split()[1:] if kind == "check" else line.split()[2:]
+    words = line.split()[{"check": 1, "fees": 6}.get(kind, 2):]
     orders = (len(words) - 5) // 3
     if len(line) > LONGEST:
         return None

@@ -64,6 +64,13 @@ pub fn check_space(lent: u64, needed: u64) -> Result<(), Refusal> {
     Ok(())
 }
 
+/// The opening with its fees is lent two spaces, one for words as always and a list with a place
+/// for each order. Either can be too small, and the refusal does not say which.
+pub fn check_fee_spaces(space: u64, list: u64, orders: usize) -> Result<(), Refusal> {
+    check_space(space, space_of_opening(orders))?;
+    check_space(list, orders as u64)
+}
+
 /// Words as 8 lower-case hexadecimal digits each.
 pub fn hexadecimal(words: &[u32], between: &str) -> String {
     let digits: Vec<String> = words.iter().map(|word| format!("{word:08x}")).collect();

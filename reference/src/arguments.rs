@@ -1,9 +1,12 @@
 //! Random arguments of the calls: sheets of real sizes, days, and the numbers beside them, some of them not allowed.
 
+use crate::answer::space_of_opening;
+use crate::chains::steady_chain;
 use crate::days::{damage_day, random_day};
+use crate::fees::{Tariff, MOST_FEE, RATE_PARTS};
 use crate::random::Random;
-use crate::shapes::{random_sheet, sheet_by_lot, Sizes, LOTS, SLOW_LOTS};
-use crate::sheet::{Grid, Sheet, LAST_PRICE, MOST_ORDERS, MOST_PIECES};
+use crate::shapes::{mirrored, random_sheet, sheet_by_lot, Sizes, LOTS, SLOW_LOTS};
+use crate::sheet::{Grid, Pieces, Sheet, LAST_PRICE, MOST_ORDERS, MOST_PIECES};
 
 /// Up to 120 orders and a million pieces.
 fn large_sizes(random: &mut Random) -> Sizes {
@@ -33,6 +36,27 @@ pub fn quick_sheet(random: &mut Random) -> Sheet {
         lot = random.below(LOTS);
     }
     sheet_by_lot(random, sizes, lot)
+}
+
+/// A sheet for the fees: of any shape, and at times a chain whose Stepper pays in nearly every round.
+pub fn charged_sheet(random: &mut Random) -> Sheet {
+    match random.one_in(16) {
+        true => charged_chain(random),
+        false => large_sheet(random),
+    }
+}
+
+/// Either side may have the Stepper, and most often there are enough rounds for it to be charged
+/// more than 32 bits hold.
+pub fn charged_chain(random: &mut Random) -> Sheet {
+    let most = MOST_ORDERS as u64;
+    let any = random.between(0, most);
+    let orders = random.pick(&[any, most - 1, most]);
+    let sheet = steady_chain(random, orders);
+    match random.one_in(2) {
+        true => mirrored(&sheet, Grid::DOCUMENT),
+        false => sheet,
+    }
 }
 
 /// A Stepper if the sheet has one; else, or if bad, any number near the orders' or large.
@@ -70,6 +94,125 @@ pub fn space_for(random: &mut Random, needed: u64, bad: bool) -> u64 {
         return random.pick(&[needed - 1, needed - 1, needed - 1, needed / 2, 0]);
     }
     random.pick(&[needed, needed, needed + 1, needed + 1_000])
+}
+
+/// What the call for the fees is asked beside a sheet: the tariff, and the sizes of the spaces for
+/// the words and for the fees.
+pub struct Charged {
+    pub tariff: Tariff,
+    pub space: u64,
+    pub list: u64,
+}
+
+/// If a space is bad, one of the two is too small, or both.
+pub fn charged(random: &mut Random, sheet: &Sheet, bad_tariff: bool, bad_space: bool) -> Charged {
+    let orders = sheet.orders.len();
+    let tariff = tariff_for(random, sheet, bad_tariff);
+    let (short, short_list) = match bad_space {
+        true => random.pick(&[(true, false), (false, true), (true, true)]),
+        false => (false, false),
+    };
+    Charged {
+        tariff,
+        space: space_for(random, space_of_opening(orders), short),
+        list: list_for(random, sheet, short_list),
+    }
+}
+
+/// The list of fees needed or more; if bad, too short, which none is where there are no orders.
+fn list_for(random: &mut Random, sheet: &Sheet, bad: bool) -> u64 {
+    let orders = sheet.orders.len() as u64;
+    space_for(random, orders, bad && orders > 0)
+}
+
+/// A tariff that is allowed; if bad, one figure of it is not.
+fn tariff_for(random: &mut Random, sheet: &Sheet, bad: bool) -> Tariff {
+    let rate = rate(random);
+    let (least, greatest) = fee_bounds(random, sheet, rate);
+    let tariff = Tariff {
+        rate,
+        least,
+        greatest,
+    };
+    match bad {
+        true => spoilt(random, tariff),
+        false => tariff,
+    }
+}
+
+/// From nothing to the whole worth. Each worth is tens, so that an odd number of five hundreds
+/// leaves half a heller of every odd number of tens.
+fn rate(random: &mut Random) -> u64 {
+    match random.below(8) {
+        0 | 1 => random.pick(&[0, 1, RATE_PARTS / 2, RATE_PARTS - 1, RATE_PARTS]),
+        2 => random.between(2, 9),
+        3 | 4 => random.between(10, 100),
+        5 | 6 => 500 * (2 * random.below(10) + 1),
+        _ => random.between(0, RATE_PARTS),
+    }
+}
+
+/// Least and greatest fee: as wide as may be, or met on one side, on both, or by every fill.
+fn fee_bounds(random: &mut Random, sheet: &Sheet, rate: u64) -> (u64, u64) {
+    let (one, other) = (near_fee(random, sheet, rate), near_fee(random, sheet, rate));
+    let any = random.between(0, MOST_FEE);
+    match random.below(12) {
+        0..=3 => (0, MOST_FEE),
+        4 => (one, MOST_FEE),
+        5 => (0, one),
+        6 | 7 => (one.min(other), one.max(other)),
+        8 => (one, one),
+        9 => (0, 0),
+        10 => (MOST_FEE, MOST_FEE),
+        _ => (one.min(any), one.max(any)),
+    }
+}
+
+/// What some order of the sheet may have to pay if it is filled completely, by a price of the band;
+/// or a heller more or less.
+fn near_fee(random: &mut Random, sheet: &Sheet, rate: u64) -> u64 {
+    let prices = [sheet.lower, sheet.upper, sheet.last_purchase];
+    let quantities: Vec<Pieces> = sheet.orders.iter().map(|order| order.quantity).collect();
+    let quantity = match quantities.is_empty() {
+        true => Pieces(1),
+        false => random.pick(&quantities),
+    };
+    let price = random.pick(&prices).clamp(sheet.lower, sheet.upper);
+    let unbounded = Tariff {
+        rate,
+        least: 0,
+        greatest: MOST_FEE,
+    };
+    let fee = unbounded.fee(quantity, price);
+    random
+        .pick(&[fee, fee, fee + 1, fee.max(1) - 1])
+        .min(MOST_FEE)
+}
+
+/// One figure beyond its range, or a least fee just above the greatest.
+fn spoilt(random: &mut Random, tariff: Tariff) -> Tariff {
+    let lot = random.below(4);
+    let most = if lot == 0 { RATE_PARTS } else { MOST_FEE };
+    let beyond = random.pick(&[most + 1, most + 1, 1 << 32, u64::MAX]);
+    let Tariff {
+        mut rate,
+        mut least,
+        mut greatest,
+    } = tariff;
+    match lot {
+        0 => rate = beyond,
+        1 => least = beyond,
+        2 => greatest = beyond,
+        _ => {
+            greatest = greatest.min(MOST_FEE - 1);
+            least = greatest + 1;
+        }
+    }
+    Tariff {
+        rate,
+        least,
+        greatest,
+    }
 }
 
 /// What the call for the indicative price is asked.

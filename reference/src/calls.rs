@@ -1,8 +1,9 @@
 //! The calls, one a line, and the opening program.
 
-use crate::answer::{check_space, hexadecimal, space_of_opening, space_of_round};
+use crate::answer::{check_fee_spaces, check_space, hexadecimal, space_of_opening, space_of_round};
 use crate::band::{indicative_price, next_band, widening};
 use crate::fast::opening::{curves, first_round, limit_of_stepper, opening};
+use crate::fees::Tariff;
 use crate::refusal::{Refusal, INPUT};
 use crate::sheet::{read, Grid, Price, HEADING_WORDS, MOST_ORDERS, ORDER_WORDS};
 use crate::waiting::waiting;
@@ -71,6 +72,7 @@ fn answer(call: &str, parts: &[&str]) -> Option<Answer> {
         "curves" => with_number(parts, curves_at),
         "round" => with_number(parts, round_in),
         "opening" => with_number(parts, opening_in),
+        "fees" => fees_from(parts),
         "waiting" => waiting_from(parts),
         _ => band_call(call, &numbers(parts)?),
     }
@@ -108,6 +110,20 @@ fn waiting_from(parts: &[&str]) -> Option<Answer> {
     Some(answer.map(|waiting| waiting.line()))
 }
 
+/// The tariff's three figures and the sizes of the two spaces, and then a sheet.
+fn fees_from(parts: &[&str]) -> Option<Answer> {
+    let [rate, least, greatest, space, list, rest @ ..] = parts else {
+        return None;
+    };
+    let tariff = Tariff {
+        rate: number(rate)?,
+        least: number(least)?,
+        greatest: number(greatest)?,
+    };
+    let (space, list) = (number(space)?, number(list)?);
+    Some(fees_in(tariff, space, list, &words(rest)?))
+}
+
 fn check(words: &[u32]) -> Answer {
     read(words, GRID)?;
     Ok("accepted".to_string())
@@ -135,6 +151,19 @@ fn opening_in(space: u64, words: &[u32]) -> Answer {
     let sheet = read(words, GRID)?;
     check_space(space, space_of_opening(sheet.orders.len()))?;
     Ok(hexadecimal(&opening(&sheet, GRID).words(), " "))
+}
+
+/// The opening's words and, told apart by a word that is no number, the fees of its orders.
+fn fees_in(tariff: Tariff, space: u64, list: u64, words: &[u32]) -> Answer {
+    let sheet = read(words, GRID)?;
+    tariff.check()?;
+    check_fee_spaces(space, list, sheet.orders.len())?;
+    let opening = opening(&sheet, GRID);
+    let mut line = hexadecimal(&opening.words(), " ") + " fees";
+    for fee in tariff.fees(&opening) {
+        line += &format!(" {fee}");
+    }
+    Ok(line)
 }
 
 /// A decimal number of 64 bits, without sign.

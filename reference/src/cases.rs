@@ -1,9 +1,11 @@
-//! The listing, the cases P1–P12, the table of refusals, and the waiting clock. The cases' openings
-//! and limits in force are worked out in both ways; bands, refusals and the clock have only one.
+//! The listing, the cases P1–P12, the table of refusals, the fees, and the waiting clock. The cases'
+//! openings and limits in force are worked out in both ways; bands, refusals, fees and the clock
+//! have only one.
 
-use crate::answer::Opening;
+use crate::answer::{Opening, Round};
 use crate::calls::{answer_line, opening_program};
-use crate::chains::chain_sheet;
+use crate::chains::{chain_sheet, steady_chain};
+use crate::fees::{Tariff, MOST_FEE};
 use crate::lines::{line, Kind};
 use crate::shapes::{mirrored, Sizes};
 use crate::sheet::{Grid, Order, Pieces, Price, Sheet, Side, Terms};
@@ -224,10 +226,19 @@ fn head([lower, upper, last, indicative]: [u32; 4]) -> String {
 }
 
 /// Every call on a sheet refuses these words with the same number, and so does the program. The
-/// number or space that a call takes would not do either, but its turn comes only after the sheet.
+/// numbers or spaces that a call takes would not do either, but their turn comes only after the
+/// sheet.
 fn refused_by_all(words: &str, number: u32) {
     let refused = format!("refused {number} 0");
-    for call in ["check", "stepper 0", "curves 0", "round 0", "opening 0"] {
+    let calls = [
+        "check",
+        "stepper 0",
+        "curves 0",
+        "round 0",
+        "opening 0",
+        "fees 10001 1 0 0 0",
+    ];
+    for call in calls {
         let line = format!("{call} {words}");
         assert_eq!(answer_line(&line), refused, "{line}");
     }
@@ -464,6 +475,398 @@ fn chains_run_sixty_rounds() {
             assert_eq!(opening.rounds.len(), 60);
         }
     }
+}
+
+fn tariff(rate: u64, least: u64, greatest: u64) -> Tariff {
+    let tariff = Tariff {
+        rate,
+        least,
+        greatest,
+    };
+    assert_eq!(tariff.check(), Ok(()));
+    tariff
+}
+
+/// Each row is a rate, a fill, the price in steps, and the fee without bounds that are met.
+fn rated(rows: &[(u64, u64, u32, u64)]) {
+    for (rate, fill, price, fee) in rows {
+        let free = tariff(*rate, 0, MOST_FEE);
+        let row = format!("{rate} {fill} {price}");
+        assert_eq!(free.fee(Pieces(*fill), Price(*price)), *fee, "{row}");
+    }
+}
+
+#[test]
+fn fees_rounded() {
+    rated(&[
+        // A single piece by a rate of 1: a thousandth of its steps. 0.499, 0.5, 0.501.
+        (1, 1, 499, 0),
+        (1, 1, 500, 1),
+        (1, 1, 501, 1),
+        // 1.499, 1.5, 1.501, 2.499, 2.5: no half goes to the even side.
+        (1, 1, 1_499, 1),
+        (1, 1, 1_500, 2),
+        (1, 1, 1_501, 2),
+        (1, 1, 2_499, 2),
+        (1, 1, 2_500, 3),
+        // Ten hellers: 0.499, 0.5, 0.501, then 9.999 and all of them.
+        (499, 1, 1, 0),
+        (500, 1, 1, 1),
+        (501, 1, 1, 1),
+        (9_999, 1, 1, 10),
+        (10_000, 1, 1, 10),
+        // Thirty hellers: 1.5; twenty: 1.
+        (500, 3, 1, 2),
+        (500, 1, 2, 1),
+        // 86,380 hellers: 302.33. 4,200 hellers: 14.7.
+        (35, 7, 1_234, 302),
+        (35, 4, 105, 15),
+        // 5,000 of them are half of tens, which is whole: 15 of 30.
+        (5_000, 3, 1, 15),
+        // 0.01 of 9,990 hellers is 99.9, and 0.0001 of 10,000,000,000 is a million.
+        (100, 9, 111, 100),
+        (1, 1_000, 1_000_000, 1_000_000),
+    ]);
+}
+
+#[test]
+fn fees_at_the_ends() {
+    rated(&[
+        // No rate, no pieces.
+        (0, 1_000_000, 1_000_000, 0),
+        (10_000, 0, 1_000_000, 0),
+        // The whole worth, up to the highest fee and no further.
+        (10_000, 4, 105, 4_200),
+        (10_000, 239, 41_841, 99_999_990),
+        (10_000, 10, 1_000_000, MOST_FEE),
+        (10_000, 11, 1_000_000, MOST_FEE),
+        // 10^13 hellers: even their ten-thousandth is more than may be asked.
+        (1, 1_000_000, 1_000_000, MOST_FEE),
+        (10_000, 1_000_000, 1_000_000, MOST_FEE),
+    ]);
+    let free = tariff(10_000, 0, MOST_FEE);
+    assert_eq!(free.share(10_000_000_000_000), 10_000_000_000_000);
+    assert_eq!(
+        tariff(9_999, 0, 0).share(10_000_000_000_000),
+        9_999_000_000_000
+    );
+}
+
+#[test]
+fn fees_within_bounds() {
+    // 4 pieces at 105 by a rate of 35 are 14.7 hellers, so 15.
+    let rows = [
+        ((0, 14), 14),
+        ((0, 15), 15),
+        ((0, 16), 15),
+        ((14, 20), 15),
+        ((15, 20), 15),
+        ((16, 20), 16),
+        ((15, 15), 15),
+        ((14, 14), 14),
+        ((16, 16), 16),
+        ((0, 0), 0),
+        ((MOST_FEE, MOST_FEE), MOST_FEE),
+    ];
+    for ((least, greatest), fee) in rows {
+        let tariff = tariff(35, least, greatest);
+        assert_eq!(tariff.fee(Pieces(4), Price(105)), fee, "{least} {greatest}");
+        // Nothing filled, nothing owed.
+        assert_eq!(tariff.fee(Pieces(0), Price(105)), 0, "{least} {greatest}");
+    }
+    // Raised from nothing: by the rate, or by rounding, as 4.2 hundredths of a heller are.
+    assert_eq!(tariff(0, 7, 9).fee(Pieces(4), Price(105)), 7);
+    assert_eq!(tariff(1, 1, 9).fee(Pieces(1), Price(42)), 1);
+}
+
+/// A round that fills as told, with an auction price that no fee may go by.
+fn round_of(price: u32, fills: &[u64]) -> Round {
+    Round {
+        situation: 0,
+        auction_price: Price(999),
+        purchase_price: (price > 0).then_some(Price(price)),
+        total: Pieces(fills.iter().sum::<u64>() / 2),
+        fills: fills.iter().map(|fill| Pieces(*fill)).collect(),
+    }
+}
+
+#[test]
+fn fees_add_up() {
+    let rounds = vec![
+        round_of(100, &[4, 4, 0, 0]),
+        round_of(150, &[1, 0, 1, 0]),
+        round_of(0, &[0, 0, 0, 0]),
+    ];
+    let opening = Opening { rounds, ending: 1 };
+    // By 0.0035: 4,000 hellers are 14, and 1,500 are 5.25, so 5.
+    assert_eq!(tariff(35, 0, 100).fees(&opening), [19, 14, 5, 0]);
+    assert_eq!(tariff(35, 10, 100).fees(&opening), [24, 14, 10, 0]);
+    assert_eq!(tariff(35, 0, 12).fees(&opening), [17, 12, 5, 0]);
+    assert_eq!(tariff(35, 6, 12).fees(&opening), [18, 12, 6, 0]);
+    assert_eq!(tariff(35, 8, 8).fees(&opening), [16, 8, 8, 0]);
+    assert_eq!(tariff(0, 0, 0).fees(&opening), [0; 4]);
+    assert_eq!(
+        tariff(10_000, 0, MOST_FEE).fees(&opening),
+        [5_500, 4_000, 1_500, 0]
+    );
+}
+
+#[test]
+fn fees_beyond_32_bits() {
+    // 2^32 is 4,294,967,296: 42 of the highest fees stay below it, 43 do not.
+    for (rounds, fee) in [
+        (42, 4_200_000_000),
+        (43, 4_300_000_000),
+        (121, 12_100_000_000),
+    ] {
+        let rounds = vec![round_of(1, &[1, 0, 1]); rounds];
+        let opening = Opening { rounds, ending: 0 };
+        let highest = tariff(0, MOST_FEE, MOST_FEE);
+        assert_eq!(highest.fees(&opening), [fee, 0, fee]);
+    }
+    let rounds = vec![round_of(1_000_000, &[8, 8]); 60];
+    let opening = Opening { rounds, ending: 0 };
+    // 80,000,000 hellers in each round.
+    assert_eq!(
+        tariff(10_000, 0, MOST_FEE).fees(&opening),
+        [4_800_000_000; 2]
+    );
+}
+
+#[test]
+fn steady_chains_charge_in_all_rounds() {
+    let mut random = Random::new(7);
+    for orders in [119, 120] {
+        let sheet = steady_chain(&mut random, orders);
+        for sheet in [mirrored(&sheet, Grid::DOCUMENT), sheet] {
+            let stepper = sheet.orders.iter().position(Order::is_stepper).unwrap();
+            let opening = fast::opening::opening(&sheet, Grid::DOCUMENT);
+            // 59 pairs, of which the last is blocked.
+            assert_eq!((opening.rounds.len(), opening.ending), (59, 1));
+            let fees = tariff(10_000, MOST_FEE, MOST_FEE).fees(&opening);
+            assert_eq!(fees[stepper], 5_800_000_000);
+        }
+    }
+}
+
+/// Three pairs of all-or-none orders, buys of 10 and sells of 11, and a Stepper of 5 that adds the
+/// eleventh piece: it stands at 107, then at 105, at last without rivals at 90. The price is 104
+/// as long as the demand exceeds the supply (35 and 33, 24 and 22), and the third pair is blocked.
+fn three_rounds() -> [Order; 7] {
+    [
+        limited(Buy, 10, 108, true),
+        limited(Buy, 10, 106, true),
+        limited(Buy, 10, 104, true),
+        stepper(Buy, 5, 110, 10),
+        limited(Sell, 11, 93, true),
+        limited(Sell, 11, 94, true),
+        limited(Sell, 11, 95, true),
+    ]
+}
+
+#[test]
+fn fees_of_three_rounds() {
+    let opening = opening(&three_rounds());
+    let priced = |round: &Round| (round.purchase_price, round.fills[3].0);
+    let rounds: Vec<_> = opening.rounds.iter().map(priced).collect();
+    let traded = Some(Price(104));
+    assert_eq!(rounds, [(traded, 1), (traded, 1), (None, 0)]);
+    // A hundredth of 10,400, 1,040 and 11,440 hellers: 104, 10.4 and 114.4. The Stepper's two
+    // fills are 10 each, although 20.8 together would be 21.
+    assert_eq!(
+        tariff(100, 0, MOST_FEE).fees(&opening),
+        [104, 104, 0, 20, 114, 114, 0]
+    );
+    assert_eq!(
+        tariff(100, 50, 110).fees(&opening),
+        [104, 104, 0, 100, 110, 110, 0]
+    );
+    assert_eq!(tariff(0, 7, 7).fees(&opening), [7, 7, 0, 14, 7, 7, 0]);
+}
+
+#[test]
+fn fees_by_the_purchase_price() {
+    // P3: two sides trade 5 at 90, beside an auction price of 80, by which they would pay 40.
+    let orders = [basic(Buy, 5, 95), basic(Buy, 5, 80), basic(Sell, 10, 70)];
+    assert_eq!(tariff(100, 1, 99).fees(&opening(&orders)), [45, 0, 45]);
+    let p3 = "50000003 6000005f 80000005 90000000 60000050 80000005 90000000 70000046 8000000a \
+              90000000";
+    let words = "a0000000 b0000050 c000005a d0000005 e0000005 e0000000 e0000005 f0020001";
+    answered(&[
+        ("fees 100 1 99 29 3", p3, &format!("{words} fees 45 0 45")),
+        ("fees 100 46 99 29 3", p3, &format!("{words} fees 46 0 46")),
+        ("fees 100 0 44 29 3", p3, &format!("{words} fees 44 0 44")),
+    ]);
+    // Above the band, where both sides have 10 from 115 on, only the sell at 100 trades, at 110.
+    let orders = [
+        basic(Buy, 10, 120),
+        basic(Sell, 5, 115),
+        basic(Sell, 5, 100),
+    ];
+    assert_eq!(first(&opening(&orders)), (0, 115, 110, 5));
+    assert_eq!(tariff(100, 1, 99).fees(&opening(&orders)), [55, 0, 55]);
+}
+
+#[test]
+fn fees_of_the_listing() {
+    // 4 pieces at 105 are 4,200 hellers, and the second round trades nothing.
+    let answers = [
+        ("35 0 100000000 19 2", "15 15"),
+        ("35 20 100000000 19 2", "20 20"),
+        ("35 0 10 1019 1002", "10 10"),
+        ("0 0 0 20 3", "0 0"),
+        ("10000 0 100000000 19 2", "4200 4200"),
+        (
+            "10000 100000000 100000000 18446744073709551615 18446744073709551615",
+            "100000000 100000000",
+        ),
+    ];
+    for (numbers, fees) in answers {
+        let line = format!("fees {numbers} {LISTING}");
+        assert_eq!(
+            answer_line(&line),
+            format!("{LISTED} fees {fees}"),
+            "{line}"
+        );
+    }
+    // Without orders nobody pays, and no list is needed.
+    let no_orders = "a0000004 b0000064 c0000000 d0000000 f0000001 fees";
+    answered(&[
+        ("fees 35 1 9 5 0", "50000000", no_orders),
+        ("fees 35 1 9 6 1", "50000000", no_orders),
+        ("fees 35 1 9 4 0", "50000000", "refused 10 0"),
+        ("fees 35 1 9 4 1000", "50000000", "refused 10 0"),
+    ]);
+}
+
+const ALLOWED_TARIFFS: [&str; 6] = [
+    "0 0 0",
+    "10000 0 0",
+    "0 0 100000000",
+    "0 5 5",
+    "0 4 5",
+    "1 100000000 100000000",
+];
+
+const REFUSED_TARIFFS: [&str; 22] = [
+    // A figure one beyond its range, alone where that can be.
+    "10001 0 0",
+    "0 0 100000001",
+    "0 100000001 100000001",
+    "0 100000001 100000000",
+    "0 100000001 0",
+    // The bounds in the wrong order.
+    "0 6 5",
+    "0 1 0",
+    "0 100000000 99999999",
+    "10000 100000000 0",
+    // Cut down to 32 bits these would be allowed.
+    "4294967296 0 0",
+    "0 4294967296 0",
+    "0 0 4294967296",
+    "0 4294967296 4294967301",
+    "4294967297 0 4294967301",
+    // The largest numbers of 32 and of 64 bits.
+    "4294967295 0 0",
+    "0 4294967295 4294967295",
+    "0 0 4294967295",
+    "18446744073709551615 0 0",
+    "0 18446744073709551615 18446744073709551615",
+    "0 0 18446744073709551615",
+    "18446744073709551615 18446744073709551615 18446744073709551615",
+    // Several at once.
+    "10001 100000001 100000000",
+];
+
+#[test]
+fn refusals_of_tariffs() {
+    for figures in ALLOWED_TARIFFS {
+        let answer = answer_line(&format!("fees {figures} 19 2 {LISTING}"));
+        assert!(answer.starts_with(&format!("{LISTED} fees ")), "{figures}");
+    }
+    for figures in REFUSED_TARIFFS {
+        // Also where the spaces would not do.
+        for spaces in ["19 2", "18 2", "19 1", "0 0"] {
+            let line = format!("fees {figures} {spaces} {LISTING}");
+            assert_eq!(answer_line(&line), "refused 16 0", "{line}");
+        }
+    }
+}
+
+#[test]
+fn refusals_of_fee_spaces() {
+    for spaces in ["18 2", "19 1", "18 1", "0 2", "19 0", "0 0", "2 19"] {
+        let line = format!("fees 35 0 9 {spaces} {LISTING}");
+        assert_eq!(answer_line(&line), "refused 10 0", "{line}");
+    }
+    // A faulty sheet comes before a bad tariff and before small spaces.
+    let sheets = [
+        ("", "refused 1 0"),
+        ("60000001", "refused 2 0"),
+        ("50000079", "refused 4 0"),
+        ("50000001 50000001 80000001 90000000", "refused 5 0"),
+        (
+            "50000002 60000000 80000001 90000000 73000001 80000000 90000001",
+            "refused 6 1",
+        ),
+        ("50000001 60000001 80000000 90000001", "refused 7 0"),
+        ("50000001 60000001 80000001 90000001", "refused 8 0"),
+    ];
+    for (words, refused) in sheets {
+        for numbers in [
+            "35 0 9 99 9",
+            "10001 0 0 99 9",
+            "35 0 9 0 9",
+            "35 0 9 99 0",
+            "0 1 0 0 0",
+        ] {
+            answered(&[(&format!("fees {numbers}"), words, refused)]);
+        }
+    }
+}
+
+#[test]
+fn fee_lines() {
+    let unreadable = [
+        "fees",
+        "fees 35",
+        "fees 35 0 9 19",
+        "fees 35 0 9 19 ",
+        "fees 35 0 9  19 2",
+        "fees 35 0 9 19 2 ",
+        "fees 35 0 9 19 2a",
+        "fees -35 0 9 19 2",
+        "fees 35 0 9 19 18446744073709551616",
+        "fees 18446744073709551616 0 9 19 2",
+        "fees 35 0 9 19 2 1000005g",
+        "fees 35 0 9 19 2 01000005a",
+    ];
+    for line in unreadable {
+        assert_eq!(answer_line(line), "unreadable", "{line}");
+    }
+    // Five numbers are a call, on a sheet without words.
+    assert_eq!(answer_line("fees 10001 0 0 0 0"), "refused 1 0");
+}
+
+#[test]
+fn random_fees_reach_all() {
+    let mut random = Random::new(7);
+    let mut missing: Vec<String> = [1, 2, 3, 4, 5, 6, 7, 8, 10, 15, 16]
+        .map(|number| format!("refused {number} "))
+        .to_vec();
+    let mut most = 0;
+    for _ in 0..3_000 {
+        let line = line(&mut random, Kind::Fees);
+        assert!(line.len() <= 4_096);
+        let answer = answer_line(&line);
+        assert_ne!(answer, "unreadable");
+        missing.retain(|start| !answer.starts_with(start));
+        let fees = answer.split_once("fees").map_or("", |(_, fees)| fees);
+        let fees = fees.split_whitespace().map(|fee| fee.parse().unwrap());
+        most = fees.fold(most, u64::max);
+    }
+    assert!(missing.is_empty(), "{missing:?}");
+    assert!(most > 1 << 32, "{most}");
 }
 
 /// The clock's line for a band and a day. A day is written as seconds in decimal, `above`,

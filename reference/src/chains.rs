@@ -3,7 +3,7 @@
 use crate::fast::opening::opening;
 use crate::random::Random;
 use crate::shapes::{mixed_sheet, price, random_mix, random_order, Mix, Sizes};
-use crate::sheet::{Order, Pieces, Sheet, Side, Terms, MOST_PIECES};
+use crate::sheet::{Order, Pieces, Sheet, Side, Terms, LAST_PRICE, MOST_PIECES};
 
 /// A chain of all-or-none pairs, one of which trades in each round. The first buy and the
 /// first sell are equal; between the first and the second buy stands a Stepper too small
@@ -40,6 +40,41 @@ pub fn chain_sheet(random: &mut Random, sizes: Sizes) -> Sheet {
     let place = random.between(0, buys.len() as u64) as usize;
     buys.insert(place, stepper);
     let mut sheet = chain_heading(random, last, meeting, highest);
+    sheet.orders = merged(random, buys, sells);
+    sheet
+}
+
+/// A chain whose Stepper trades in all rounds but the last, each time a few pieces: every sell has
+/// some more than the buy it is paired with, and only the Stepper can make up for them. It has
+/// more than all of these together, so that no further total becomes common, and fewer than any
+/// buy. No other shape lets an order be charged so often.
+pub fn steady_chain(random: &mut Random, orders: u64) -> Sheet {
+    let pairs = (orders.max(1) - 1) / 2;
+    let most_extra = random.pick(&[1, 20, 2_000]);
+    let extras: Vec<u64> = (0..pairs).map(|_| random.between(1, most_extra)).collect();
+    let stepper = extras.iter().sum::<u64>() + random.between(1, 1_000);
+    let least = random.between(stepper + 1, 400_000);
+    let most = random.between(least, 2 * least - 1);
+    let last = u64::from(LAST_PRICE);
+    let low = random.between(1, last - 3 * pairs - 3);
+    let meeting = random.pick(&[low, last - 3 * pairs - 3]) + pairs;
+    let mut sheet = chain_heading(random, last, meeting, meeting + 2 * pairs);
+    let (mut buys, mut sells) = (Vec::new(), Vec::new());
+    for (extra, place) in extras.into_iter().zip(0..) {
+        let pieces = random.between(least, most);
+        let buy_limit = meeting + 2 * (pairs - place);
+        buys.push(all_or_none(Side::Buy, buy_limit, pieces));
+        let sell_limit = meeting - pairs + place;
+        sells.push(all_or_none(Side::Sell, sell_limit, pieces + extra));
+    }
+    buys.push(Order {
+        side: Side::Buy,
+        terms: Terms::Stepper {
+            limit: sheet.upper,
+            ignored: Pieces(most),
+        },
+        quantity: Pieces(stepper),
+    });
     sheet.orders = merged(random, buys, sells);
     sheet
 }

@@ -1,5 +1,5 @@
-//! A second implementation of the opening auction of document 01, to compare with: a literal way and a fast one, the band
-//! and the waiting clock, and random sheets and arguments.
+//! A second implementation of the opening auction of document 01, to compare with: a literal way and a fast one, the band,
+//! the fees and the waiting clock, and random sheets and arguments.
 
 pub mod agree;
 pub mod answer;
@@ -12,6 +12,7 @@ pub mod chains;
 pub mod damage;
 pub mod days;
 pub mod fast;
+pub mod fees;
 pub mod lines;
 pub mod literal;
 pub mod random;

@@ -2,9 +2,11 @@
 
 use crate::answer::{hexadecimal, space_of_opening, space_of_round};
 use crate::arguments::{
-    indicative, large_sheet, next, order_for, price_for, space_for, waiting, widening,
+    charged, charged_sheet, indicative, large_sheet, next, order_for, price_for, space_for,
+    waiting, widening, Charged,
 };
 use crate::damage::damage;
+use crate::fees::Tariff;
 use crate::random::Random;
 use crate::shapes::{random_sheet, Sizes};
 use crate::sheet::{Grid, Order};
@@ -16,6 +18,7 @@ pub enum Kind {
     Curves,
     Round,
     Opening,
+    Fees,
     Band,
     Small,
     Waiting,
@@ -29,6 +32,7 @@ impl Kind {
             "curves" => Some(Kind::Curves),
             "round" => Some(Kind::Round),
             "opening" => Some(Kind::Opening),
+            "fees" => Some(Kind::Fees),
             "band" => Some(Kind::Band),
             "small" => Some(Kind::Small),
             "waiting" => Some(Kind::Waiting),
@@ -40,6 +44,7 @@ impl Kind {
 /// One line of a kind.
 pub fn line(random: &mut Random, kind: Kind) -> String {
     match kind {
+        Kind::Fees => fees_line(random),
         Kind::Band => band_line(random),
         Kind::Small => small_line(random),
         Kind::Waiting => waiting_line(random),
@@ -93,6 +98,32 @@ fn sheet_line(random: &mut Random, kind: Kind) -> String {
         }
         _ => joined("check", None, &words),
     }
+}
+
+/// The opening with its fees. In about an eighth of the lines the sheet, the tariff or a space is not
+/// as it should be, or two of these are not, and the refusal must be that of the first.
+fn fees_line(random: &mut Random) -> String {
+    let sheet = charged_sheet(random);
+    let lot = random.below(48);
+    let (bad_sheet, bad_tariff) = (lot <= 2, (2..=4).contains(&lot));
+    let bad_space = (4..=5).contains(&lot) || lot == 0;
+    let mut words = sheet.words();
+    if bad_sheet {
+        damage(random, &mut words);
+    }
+    let asked = charged(random, &sheet, bad_tariff, bad_space);
+    joined_fees(&asked, &words)
+}
+
+/// The call for fees as a line.
+pub fn joined_fees(asked: &Charged, words: &[u32]) -> String {
+    let Tariff {
+        rate,
+        least,
+        greatest,
+    } = asked.tariff;
+    let call = format!("fees {rate} {least} {greatest} {}", asked.space);
+    joined(&call, Some(asked.list), words)
 }
 
 /// The call, its number and the words, with single spaces.

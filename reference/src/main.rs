@@ -7,7 +7,7 @@ use std::process::ExitCode;
 const USAGE: &str = "reference opening
 reference calls
 reference agree [COUNT] [SEED]
-reference sheets check|stepper|curves|round|opening|band|small|waiting COUNT SEED";
+reference sheets check|stepper|curves|round|opening|fees|band|small|waiting COUNT SEED";
 
 fn main() -> ExitCode {
     let arguments: Vec<String> = std::env::args().skip(1).collect();

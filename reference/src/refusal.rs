@@ -1,4 +1,5 @@
-//! The refusals by number (01 'Where a refusal arises'; 02 (1) for 13 and 14, 02 (2) for 15 and for what 3 means now).
+//! The refusals by number (01 'Where a refusal arises'; 02 (1) for 13 and 14, 02 (2) for 15 and for what 3 means now, 02 (3)
+//! for 16).
 
 /// `place` says where the fault lies, counted from 0: at which order in refusals 5–8, at which word of its list in all that
 /// the waiting clock refuses word by word (11, 13, 14). It is 0 in all others.
@@ -19,7 +20,7 @@ pub const LENGTH: Refusal = Refusal::new(4);
 /// A number of no order or of one that is no Stepper, a price off the grid, a D at or above H,
 /// a code or side other than 0 and 1.
 pub const ARGUMENT: Refusal = Refusal::new(9);
-/// The space lent is too small.
+/// A space lent is too small, be it for the words of a result or for its fees.
 pub const SPACE: Refusal = Refusal::new(10);
 /// I = 1 for the next band, or an upper bound that would leave the grid.
 pub const BAND: Refusal = Refusal::new(11);
@@ -27,6 +28,8 @@ pub const BAND: Refusal = Refusal::new(11);
 pub const INPUT: Refusal = Refusal::new(12);
 /// A heading in which D < I < H fails.
 pub const HEADING_BAND: Refusal = Refusal::new(15);
+/// A tariff with a figure out of its range, or with its least fee above the greatest.
+pub const TARIFF: Refusal = Refusal::new(16);
 
 /// An order word of a wrong kind.
 pub const ORDER_KIND: u32 = 5;

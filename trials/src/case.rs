@@ -3,11 +3,12 @@
 
 use reference::answer::{space_of_opening, space_of_round};
 use reference::arguments::{
-    indicative, next, order_for, price_for, quick_sheet, space_for, waiting, widening, Indicative,
-    Waited,
+    charged, charged_chain, indicative, next, order_for, price_for, quick_sheet, space_for,
+    waiting, widening, Charged, Indicative, Waited,
 };
 use reference::damage::damage;
 use reference::random::Random;
+use reference::sheet::Sheet;
 
 /// What the calls of one case are asked. Numbers are of 64 bits, as the reference implementation takes them.
 pub struct Case {
@@ -20,11 +21,21 @@ pub struct Case {
     pub next: (u64, u64),
     pub widening: ((u64, u64), u64),
     pub waiting: Waited,
+    /// The fees on the case's own sheet.
+    pub charged: Charged,
+    /// At times the fees on a second sheet, a chain that charges one order in nearly every round.
+    pub chain: Option<(Vec<u32>, Charged)>,
 }
 
-/// In sixteen cases, so many have a damaged sheet, and so many arguments that are most likely refused.
+/// In sixteen cases, so many have a damaged sheet, so many arguments that are most likely refused, so many a tariff that is not
+/// allowed, and so many too little space for the opening with its fees.
 const DAMAGED: u64 = 1;
 const BAD_ARGUMENTS: u64 = 1;
+const BAD_TARIFFS: u64 = 1;
+const BAD_SPACES: u64 = 1;
+
+/// One case in so many has a chain besides.
+const CHAINS: u64 = 32;
 
 impl Case {
     pub fn drawn(seed: u64, number: u64) -> Case {
@@ -47,11 +58,28 @@ impl Case {
             next: next(random),
             widening: widening(random),
             waiting: waiting(random),
+            charged: charged_for(random, &sheet),
+            chain: random_chain(random),
         }
     }
 }
 
-/// A number for a parameter of 32 bits: one that it cannot hold becomes the largest, which is no price, code or side either.
+/// What the fees of a sheet are asked. It is drawn behind all that other calls are asked.
+fn charged_for(random: &mut Random, sheet: &Sheet) -> Charged {
+    let bad_tariff = random.below(16) < BAD_TARIFFS;
+    let bad_spaces = random.below(16) < BAD_SPACES;
+    charged(random, sheet, bad_tariff, bad_spaces)
+}
+
+fn random_chain(random: &mut Random) -> Option<(Vec<u32>, Charged)> {
+    random.one_in(CHAINS).then(|| {
+        let sheet = charged_chain(random);
+        (sheet.words(), charged_for(random, &sheet))
+    })
+}
+
+/// A number for a parameter of 32 bits: one that it cannot hold becomes the largest, which is no price, code, side or figure
+/// of a tariff either.
 pub fn narrow(number: u64) -> u32 {
     u32::try_from(number).unwrap_or(u32::MAX)
 }

@@ -3,17 +3,17 @@
 use crate::boxashewu::raw;
 use crate::case::{narrow, Case};
 use crate::expected;
-use crate::lent::Lent;
+use crate::lent::{Entry, Lent, Spaces};
 use crate::tally::{Call, Tally};
 use reference::answer::{
-    check_space, hexadecimal, space_of_opening, space_of_round, Opening, Round,
+    check_fee_spaces, check_space, hexadecimal, space_of_opening, space_of_round, Opening, Round,
 };
-use reference::arguments::Waited;
+use reference::arguments::{Charged, Waited};
 use reference::fast::opening::{first_round, opening};
-use reference::lines::joined;
+use reference::lines::{joined, joined_fees};
 use reference::refusal::Refusal;
 use reference::sheet::{read, Grid, Sheet};
-use std::fmt::Debug;
+use std::fmt::{Debug, LowerHex};
 
 const GRID: Grid = Grid::DOCUMENT;
 
@@ -28,16 +28,26 @@ type Compared = Result<(), Difference>;
 /// The words of a result, or the refusal of a call that writes.
 type Written = Result<Vec<u32>, Refusal>;
 
-/// A case, with the list of words that the library is given. It is a copy, so that a word that was changed is seen.
+/// The words of a result and the fees, or the refusal of the call that writes both.
+type Billed = Result<(Vec<u32>, Vec<u64>), Refusal>;
+
+/// A case, one of its sheets, and the list of words that the library is given. It is a copy, so that a word that was changed is
+/// seen.
 struct Asked<'a> {
     case: &'a Case,
+    words: &'a [u32],
     given: Vec<u32>,
 }
 
-impl Asked<'_> {
+impl<'a> Asked<'a> {
+    fn new(case: &'a Case, words: &'a [u32]) -> Asked<'a> {
+        let given = words.to_vec();
+        Asked { case, words, given }
+    }
+
     /// A call on the sheet, as a line.
     fn line(&self, call: &str, number: Option<u64>) -> String {
-        joined(call, number, &self.case.words)
+        joined(call, number, self.words)
     }
 
     /// The answers of the two are the same, and the sheet is as it was.
@@ -49,7 +59,7 @@ impl Asked<'_> {
     ) -> Compared {
         let what = if library != reference {
             format!("the library\n  {library:?}\nthe reference implementation\n  {reference:?}")
-        } else if self.given != self.case.words {
+        } else if self.given != self.words {
             let left = hexadecimal(&self.given, " ");
             format!("the library left the sheet as\n  {left}")
         } else {
@@ -59,22 +69,66 @@ impl Asked<'_> {
     }
 
     /// A call that writes: its record, and every word of the space and beside it.
-    fn written(&self, call: &Writing, space: u64, answer: &Written, lent: &mut Lent) -> Compared {
-        let (given, salt) = (&self.given, self.case.price as u32);
+    fn written(
+        &self,
+        call: &Writing,
+        space: u64,
+        answer: &Written,
+        lent: &mut Lent<u32>,
+    ) -> Compared {
+        let (given, salt) = (&self.given, self.case.price);
         let library = lent.lend(space as usize, salt, |at, room| unsafe {
             (call.library)(given.as_ptr(), given.len(), at, room)
         });
         let line = || self.line(call.line, Some(space));
         self.same(line, library, expected::space(answer))?;
         let result = answer.as_ref().map_or(&[][..], Vec::as_slice);
-        match lent.wrong(result) {
-            None => Ok(()),
-            Some((place, holds, due)) => {
-                let what = format!(
-                    "word {place} of the space holds {holds:08x} and should hold {due:08x}"
-                );
-                Err(Difference { line: line(), what })
-            }
+        as_due(line, "word", lent, result)
+    }
+
+    /// The opening with its fees: its record, and every entry of both spaces and beside them.
+    fn billed(&self, asked: &Charged, answer: &Billed, lent: &mut Spaces) -> Compared {
+        let library = self.opening_fees(asked, lent);
+        let line = || joined_fees(asked, self.words);
+        self.same(line, library, expected::charged(answer))?;
+        let (words, fees) = match answer {
+            Ok((words, fees)) => (words.as_slice(), fees.as_slice()),
+            Err(_) => (&[][..], &[][..]),
+        };
+        as_due(line, "word", &lent.words, words)?;
+        as_due(line, "fee", &lent.fees, fees)
+    }
+
+    /// The library's record of it.
+    fn opening_fees(&self, asked: &Charged, lent: &mut Spaces) -> raw::SpaceReply {
+        let (given, salt) = (&self.given, self.case.price);
+        let (room, list) = (asked.space as usize, asked.list as usize);
+        let tariff = &asked.tariff;
+        let (rate, least) = (narrow(tariff.rate), narrow(tariff.least));
+        let greatest = narrow(tariff.greatest);
+        let Spaces { words, fees } = lent;
+        words.lend(room, salt, |at, room| {
+            fees.lend(list, salt, |to, places| unsafe {
+                let (sheet, count) = (given.as_ptr(), given.len());
+                raw::auction_opening_fees(sheet, count, rate, least, greatest, at, room, to, places)
+            })
+        })
+    }
+}
+
+/// A space holds what it should: what was to be written, and otherwise what it held.
+fn as_due<T: Entry + LowerHex>(
+    line: impl Fn() -> String,
+    entry: &str,
+    lent: &Lent<T>,
+    result: &[T],
+) -> Compared {
+    match lent.wrong(result) {
+        None => Ok(()),
+        Some((place, holds, due)) => {
+            let what =
+                format!("{entry} {place} of the space holds {holds:08x} and should hold {due:08x}");
+            Err(Difference { line: line(), what })
         }
     }
 }
@@ -127,23 +181,34 @@ impl Reworked {
     /// The words of the opening, likewise.
     fn opening_in(&self, space: u64) -> Written {
         check_space(space, space_of_opening(self.read()?.orders.len()))?;
-        Ok(self
-            .opening
-            .as_ref()
-            .expect("the sheet is accepted")
-            .words())
+        Ok(self.opened().words())
+    }
+
+    /// The words of the opening and the fees, where the tariff is allowed too.
+    fn billed_in(&self, asked: &Charged) -> Billed {
+        let sheet = self.read()?;
+        asked.tariff.check()?;
+        check_fee_spaces(asked.space, asked.list, sheet.orders.len())?;
+        let opening = self.opened();
+        Ok((opening.words(), asked.tariff.fees(opening)))
+    }
+
+    fn opened(&self) -> &Opening {
+        self.opening.as_ref().expect("the sheet is accepted")
     }
 }
 
 /// Compares all calls on a case and counts what was met.
-pub fn compare(case: &Case, lent: &mut Lent, tally: &mut Tally) -> Compared {
-    let asked = Asked {
-        case,
-        given: case.words.clone(),
-    };
+pub fn compare(case: &Case, lent: &mut Spaces, tally: &mut Tally) -> Compared {
+    let asked = Asked::new(case, &case.words);
     let reworked = Reworked::of(&case.words);
     compare_asking(&asked, &reworked, tally)?;
-    compare_writing(&asked, &reworked, lent, tally)?;
+    compare_writing(&asked, &reworked, &mut lent.words, tally)?;
+    compare_fees(&asked, &case.charged, &reworked, lent, tally)?;
+    if let Some((words, charged)) = &case.chain {
+        let asked = Asked::new(case, words);
+        compare_fees(&asked, charged, &Reworked::of(words), lent, tally)?;
+    }
     compare_bands(&asked, tally)?;
     compare_waiting(&case.waiting, tally)?;
     tally.sheets += 1;
@@ -173,7 +238,7 @@ fn compare_asking(asked: &Asked, reworked: &Reworked, tally: &mut Tally) -> Comp
 fn compare_writing(
     asked: &Asked,
     reworked: &Reworked,
-    lent: &mut Lent,
+    lent: &mut Lent<u32>,
     tally: &mut Tally,
 ) -> Compared {
     let space = asked.case.round_space;
@@ -186,6 +251,23 @@ fn compare_writing(
     tally.met(Call::Opening, expected::space(&opened).refusal);
     if let (Ok(sheet), Some(opening), Ok(_)) = (&reworked.sheet, &reworked.opening, &opened) {
         tally.opened(sheet, opening);
+    }
+    Ok(())
+}
+
+/// The opening with its fees.
+fn compare_fees(
+    asked: &Asked,
+    charged: &Charged,
+    reworked: &Reworked,
+    lent: &mut Spaces,
+    tally: &mut Tally,
+) -> Compared {
+    let billed = reworked.billed_in(charged);
+    asked.billed(charged, &billed, lent)?;
+    tally.met(Call::OpeningFees, expected::charged(&billed).refusal);
+    if let Ok((_, fees)) = &billed {
+        tally.charged(charged.tariff, reworked.opened(), fees);
     }
     Ok(())
 }

@@ -50,14 +50,25 @@ pub fn curves_at(read: Read, p: u64) -> raw::CurvesReply {
     }
 }
 
-pub fn space(answer: &Result<Vec<u32>, Refusal>) -> raw::SpaceReply {
-    let (refusal, order) = fault(answer);
-    let count = answer.as_ref().map_or(0, Vec::len);
+/// The record of a call that writes, by how many words it writes.
+fn counted(answer: Result<usize, Refusal>) -> raw::SpaceReply {
+    let (refusal, order) = fault(&answer);
+    let count = answer.unwrap_or(0);
     raw::SpaceReply {
         refusal,
         order,
         count,
     }
+}
+
+pub fn space(answer: &Result<Vec<u32>, Refusal>) -> raw::SpaceReply {
+    counted(answer.as_ref().map(Vec::len).map_err(|fault| *fault))
+}
+
+/// Only the words are counted: how many fees there are is known beforehand.
+pub fn charged(answer: &Result<(Vec<u32>, Vec<u64>), Refusal>) -> raw::SpaceReply {
+    let words = answer.as_ref().map(|(words, _)| words.len());
+    counted(words.map_err(|fault| *fault))
 }
 
 pub fn indicative(asked: &reference::arguments::Indicative) -> raw::PriceReply {

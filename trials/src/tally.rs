@@ -1,6 +1,7 @@
 //! What was met on the way.
 
 use reference::answer::Opening;
+use reference::fees::{worth, Tariff};
 use reference::sheet::{Order, Pieces, Sheet};
 
 #[derive(Clone, Copy)]
@@ -10,6 +11,7 @@ pub enum Call {
     CurvesAt,
     FirstRound,
     Opening,
+    OpeningFees,
     IndicativePrice,
     NextBand,
     WidenedBand,
@@ -17,12 +19,13 @@ pub enum Call {
 }
 
 /// Their names, in the same order.
-const CALLS: [&str; 9] = [
+const CALLS: [&str; 10] = [
     "check",
     "stepper_limit",
     "curves_at",
     "first_round",
     "opening",
+    "opening_fees",
     "indicative_price",
     "next_band",
     "widened_band",
@@ -30,13 +33,13 @@ const CALLS: [&str; 9] = [
 ];
 
 /// 0, and the numbers of the refusals.
-const NUMBERS: usize = 16;
+const NUMBERS: usize = 17;
 
 #[derive(Default)]
 pub struct Tally {
     pub sheets: u64,
     /// For each call, how often it was refused with each number; under 0, how often it answered.
-    calls: [[u64; NUMBERS]; 9],
+    calls: [[u64; NUMBERS]; 10],
     /// Openings of 1, 2, 3 to 9, 10 to 59, 60 rounds and more.
     rounds: [u64; 5],
     most_rounds: usize,
@@ -49,10 +52,60 @@ pub struct Tally {
     with_all_or_none: u64,
     /// Openings whose first round trades.
     trading: u64,
+    fees: Fees,
     /// Waiting lists that were followed: to a phase that is on, with 0, 1, 2 to 9, 10 to 142 and 143 openings due.
     waiting: u64,
     due: [u64; 5],
     longest_list: usize,
+}
+
+/// What was charged.
+#[derive(Default)]
+struct Fees {
+    /// Openings of which some order has to pay.
+    openings: u64,
+    /// Fills that were raised to the least fee, cut to the greatest, or left at what the rate asks, and how many of the last
+    /// came to exactly half a heller.
+    raised: u64,
+    cut: u64,
+    left: u64,
+    halves: u64,
+    /// The largest fee of an order.
+    largest: u64,
+}
+
+impl Fees {
+    /// A fill of at least one piece, by what it is worth.
+    fn add(&mut self, tariff: Tariff, worth: u64) {
+        match tariff.share(worth) {
+            share if share < tariff.least => self.raised += 1,
+            share if share > tariff.greatest => self.cut += 1,
+            _ => {
+                self.left += 1;
+                self.halves += u64::from(tariff.leaves_half(worth));
+            }
+        }
+    }
+
+    fn join(&mut self, other: &Fees) {
+        self.openings += other.openings;
+        self.raised += other.raised;
+        self.cut += other.cut;
+        self.left += other.left;
+        self.halves += other.halves;
+        self.largest = self.largest.max(other.largest);
+    }
+
+    fn print(&self) {
+        println!(
+            "openings charged: {}, largest fee of an order: {}",
+            self.openings, self.largest
+        );
+        println!(
+            "fills raised to the least fee: {}, cut to the greatest: {}, left: {}, of these rounded at a half: {}",
+            self.raised, self.cut, self.left, self.halves
+        );
+    }
 }
 
 impl Tally {
@@ -80,6 +133,21 @@ impl Tally {
         self.trading += u64::from(opening.rounds[0].total > Pieces(0));
         for round in &opening.rounds {
             self.situations[round.situation as usize] += 1;
+        }
+    }
+
+    /// An opening with its fees that was not refused.
+    pub fn charged(&mut self, tariff: Tariff, opening: &Opening, fees: &[u64]) {
+        let largest = fees.iter().copied().max().unwrap_or(0);
+        self.fees.openings += u64::from(largest > 0);
+        self.fees.largest = self.fees.largest.max(largest);
+        for round in &opening.rounds {
+            let Some(price) = round.purchase_price else {
+                continue;
+            };
+            for fill in round.fills.iter().filter(|fill| **fill > Pieces(0)) {
+                self.fees.add(tariff, worth(*fill, price));
+            }
         }
     }
 
@@ -116,6 +184,7 @@ impl Tally {
         self.with_steppers += other.with_steppers;
         self.with_all_or_none += other.with_all_or_none;
         self.trading += other.trading;
+        self.fees.join(&other.fees);
     }
 
     pub fn print(&self) {
@@ -137,6 +206,7 @@ impl Tally {
         println!("most rounds: {}", self.most_rounds);
         println!("rounds of situations 0 to 4: {:?}", self.situations);
         println!("endings 0 to 2: {:?}", self.endings);
+        self.fees.print();
         let [none, one, few, many, most] = self.due;
         println!(
             "waiting lists to a phase that is on: {}, of most words: {}",

@@ -3,3 +3,4 @@ pub mod FirstRound
 pub mod FirstWritten
 pub mod Spaces
 pub mod WholeOpening
+pub mod WithFees

@@ -5,8 +5,9 @@ mod replies;
 
 ghost use mathlib.Core.Path.{_≡_};
 ghost use lib.ListN.{length};
-ghost use Rattle.claims.specs.Calls.{FirstRound, Opened};
-ghost use Rattle.rules.specs.Calls.{answer, check, stepperLimit, curvesAt, firstRound, opening, indicative, next, widen, waiting};
+ghost use Rattle.claims.specs.Calls.{FirstRound, Opened, OpenedWithFees};
+ghost use Rattle.rules.specs.Calls.{answer, check, stepperLimit, curvesAt, firstRound, opening, openingFees, indicative, next, widen, waiting};
+ghost use Rattle.rules.specs.Fees.{tariffOf};
 ghost use Rattle.boxashewu.specs.Replies.{sheetReply, priceReply, curvesReply, spaceReply, bandReply, waitingReply};
 use clock::WaitingReply;
 use clock::waiting_reply;
@@ -20,6 +21,7 @@ use replies::curves_reply;
 use replies::price_reply;
 use replies::sheet_reply;
 use replies::space_reply;
+use rules::Tariff;
 
 // Checks a sheet.
 #[no_mangle]
@@ -61,6 +63,28 @@ pub extern "C" fn auction_opening(words: &[u32], space: &mut [u32]) -> SpaceRepl
     ensures { λ _. ⌜ Opened (now (words .entry)) (now (space .entry)) (now (space .exit)) (answer (opening (now (words .entry)) (length (now (space .entry))))) ⌝ }
 {
     space_reply(auction::opening(words, space))
+}
+
+// The opening, written like that, and what each order pays by a tariff, written into the lent fee list, which
+// needs n places.
+#[no_mangle]
+pub extern "C" fn auction_opening_fees(
+    words: &[u32],
+    rate: u32,
+    least: u32,
+    greatest: u32,
+    space: &mut [u32],
+    fees: &mut [u64],
+) -> SpaceReply
+    ensures { λ r. ⌜ r ≡ spaceReply (answer (openingFees (now (words .entry)) (tariffOf rate least greatest) (length (now (space .entry))) (length (now (fees .entry))))) ⌝ }
+    ensures { λ _. ⌜ OpenedWithFees (now (words .entry)) (tariffOf rate least greatest) (now (space .entry)) (now (space .exit)) (now (fees .entry)) (now (fees .exit)) (answer (openingFees (now (words .entry)) (tariffOf rate least greatest) (length (now (space .entry))) (length (now (fees .entry))))) ⌝ }
+{
+    let tariff = Tariff {
+        rate,
+        least,
+        greatest,
+    };
+    space_reply(auction::opening_fees(words, tariff, space, fees))
 }
 
 // The indicative price, from the band, the count of pieces traded, the closing purchase price and the

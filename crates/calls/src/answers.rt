@@ -1,10 +1,11 @@
 // The answer to a line, printed.
+ghost use Prim.Native.Nat.{_≤_};
 use crate::fields::Fields;
-use crate::fields::Number;
 use crate::fields::field_end;
-use crate::fields::first_number;
 use crate::fields::read_fields;
+use crate::fields::read_numbers;
 use crate::space::Writes;
+use crate::space::print_charged;
 use crate::space::print_written;
 use rules::BandAnswer;
 use rules::Checked;
@@ -13,16 +14,18 @@ use rules::CurvesAnswer;
 use rules::Phase;
 use rules::PriceAnswer;
 use rules::Refusal;
+use rules::Tariff;
 use rules::WaitingAnswer;
 
-// A call on a list of words, with the numbers that stand before them. All but the last are on a sheet.
+// A call on a list of words. All but the last are on a sheet.
 enum ListCall {
     Check,
-    Stepper(u64),
-    Curves(u64),
-    Round(u64),
-    Opening(u64),
-    Waiting(u64, u64),
+    Stepper,
+    Curves,
+    Round,
+    Opening,
+    Fees,
+    Waiting,
 }
 
 pub(crate) fn print_refusal(refusal: Refusal) {
@@ -129,23 +132,48 @@ fn argument(value: u64) -> u32 {
     }
 }
 
-fn call_list(call: ListCall, words: &[u32]) {
+// How many numbers stand before the words.
+fn numbers_before(call: ListCall) -> usize
+    ensures { λ r. ⌜ r ≤ 5 ⌝ }
+{
+    match call {
+        ListCall::Check => 0,
+        ListCall::Stepper => 1,
+        ListCall::Curves => 1,
+        ListCall::Round => 1,
+        ListCall::Opening => 1,
+        ListCall::Fees => 5,
+        ListCall::Waiting => 2,
+    }
+}
+
+fn call_fees(numbers: [u64; 5], words: &[u32]) {
+    let tariff = Tariff {
+        rate: argument(numbers[0]),
+        least: argument(numbers[1]),
+        greatest: argument(numbers[2]),
+    };
+    print_charged(tariff, numbers[3], numbers[4], words);
+}
+
+fn call_list(call: ListCall, numbers: [u64; 5], words: &[u32]) {
     match call {
         ListCall::Check => print_check(sheet::check(words)),
-        ListCall::Stepper(order) => print_price(auction::stepper_limit(words, order as usize)),
-        ListCall::Curves(price) => print_curves(auction::curves_at(words, argument(price))),
-        ListCall::Round(space) => print_written(Writes::FirstRound, space, words),
-        ListCall::Opening(space) => print_written(Writes::Opening, space, words),
-        ListCall::Waiting(lower, upper) => print_waiting(waiting::waiting_clock(
-            argument(lower),
-            argument(upper),
+        ListCall::Stepper => print_price(auction::stepper_limit(words, numbers[0] as usize)),
+        ListCall::Curves => print_curves(auction::curves_at(words, argument(numbers[0]))),
+        ListCall::Round => print_written(Writes::FirstRound, numbers[0], words),
+        ListCall::Opening => print_written(Writes::Opening, numbers[0], words),
+        ListCall::Fees => call_fees(numbers, words),
+        ListCall::Waiting => print_waiting(waiting::waiting_clock(
+            argument(numbers[0]),
+            argument(numbers[1]),
             words,
         )),
     }
 }
 
 // The words of a list, from fields of at most 32 bits.
-fn answer_words(call: ListCall, fields: &[u64; 2048], count: usize) {
+fn answer_words(call: ListCall, numbers: [u64; 5], fields: &[u64; 2048], count: usize) {
     if 2048 < count {
         return;
     }
@@ -155,64 +183,26 @@ fn answer_words(call: ListCall, fields: &[u64; 2048], count: usize) {
         words[i] = argument(fields[i]);
         i += 1;
     }
-    call_list(call, &words[..count]);
+    call_list(call, numbers, &words[..count]);
 }
 
-fn answer_list(call: ListCall, text: &[u8]) {
+// The words behind the numbers.
+fn answer_behind(call: ListCall, numbers: [u64; 5], text: &[u8]) {
     let mut fields = [0u64; 2048];
     match read_fields(text, true, &mut fields) {
-        Fields::Count(count) => answer_words(call, &fields, count),
+        Fields::Count(count) => answer_words(call, numbers, &fields, count),
         Fields::Unreadable => unreadable(),
     }
 }
 
-// What the number before the words of a sheet is: an order's, a price, or the size of a space.
-enum Numbered {
-    Stepper,
-    Curves,
-    Round,
-    Opening,
-}
-
-fn with_number(call: Numbered, number: u64) -> ListCall {
-    match call {
-        Numbered::Stepper => ListCall::Stepper(number),
-        Numbered::Curves => ListCall::Curves(number),
-        Numbered::Round => ListCall::Round(number),
-        Numbered::Opening => ListCall::Opening(number),
-    }
-}
-
-// The calls on a sheet that have a number before its words.
-fn answer_numbered(call: Numbered, text: &[u8]) {
-    let first = first_number(text);
-    let number = first.number;
-    let end = first.end;
-    match number {
-        Number::Is(number) => answer_list(with_number(call, number), &text[end..]),
-        Number::Unreadable => unreadable(),
-    }
-}
-
-// The words of a waiting list behind the upper bound of its starting band.
-fn answer_waiting_from(lower: u64, text: &[u8]) {
-    let first = first_number(text);
-    let number = first.number;
-    let end = first.end;
-    match number {
-        Number::Is(upper) => answer_list(ListCall::Waiting(lower, upper), &text[end..]),
-        Number::Unreadable => unreadable(),
-    }
-}
-
-// The waiting clock, which has two numbers before its words.
-fn answer_waiting(text: &[u8]) {
-    let first = first_number(text);
-    let number = first.number;
-    let end = first.end;
-    match number {
-        Number::Is(lower) => answer_waiting_from(lower, &text[end..]),
-        Number::Unreadable => unreadable(),
+fn answer_list(call: ListCall, text: &[u8]) {
+    let mut numbers = [0u64; 5];
+    let lead = read_numbers(text, numbers_before(call), &mut numbers);
+    let end = lead.end;
+    if lead.readable {
+        answer_behind(call, numbers, &text[end..]);
+    } else {
+        unreadable();
     }
 }
 
@@ -257,23 +247,27 @@ fn answer_call(name: &[u8], text: &[u8]) {
         return;
     }
     if check::same(name, b"stepper") {
-        answer_numbered(Numbered::Stepper, text);
+        answer_list(ListCall::Stepper, text);
         return;
     }
     if check::same(name, b"curves") {
-        answer_numbered(Numbered::Curves, text);
+        answer_list(ListCall::Curves, text);
         return;
     }
     if check::same(name, b"round") {
-        answer_numbered(Numbered::Round, text);
+        answer_list(ListCall::Round, text);
         return;
     }
     if check::same(name, b"opening") {
-        answer_numbered(Numbered::Opening, text);
+        answer_list(ListCall::Opening, text);
+        return;
+    }
+    if check::same(name, b"fees") {
+        answer_list(ListCall::Fees, text);
         return;
     }
     if check::same(name, b"waiting") {
-        answer_waiting(text);
+        answer_list(ListCall::Waiting, text);
         return;
     }
     answer_band(name, text);

@@ -114,6 +114,42 @@ pub(crate) fn first_number(text: &[u8]) -> First
     First { number, end }
 }
 
+// Whether the numbers that should stand first in a text are there, and the place behind them.
+pub(crate) struct Lead {
+    pub readable: bool,
+    pub end: usize,
+}
+
+// Reads so many decimal numbers that stand first in a text, five at most.
+pub(crate) fn read_numbers(text: &[u8], count: usize, numbers: &mut [u64; 5]) -> Lead
+    requires { ⌜ count ≤ 5 ⌝ }
+    ensures { λ r. ⌜ r .end ≤ length (now (text .entry)) ⌝ }
+{
+    let mut end: usize = 0;
+    let mut i: usize = 0;
+    while i < count {
+        let first = first_number(&text[end..]);
+        let number = first.number;
+        match number {
+            Number::Is(value) => {
+                numbers[i] = value;
+            }
+            Number::Unreadable => {
+                return Lead {
+                    readable: false,
+                    end,
+                };
+            }
+        }
+        end += first.end;
+        i += 1;
+    }
+    Lead {
+        readable: true,
+        end,
+    }
+}
+
 // Reads the fields of a text in which each stands after a space.
 pub(crate) fn read_fields(text: &[u8], hex: bool, fields: &mut [u64; 2048]) -> Fields {
     let mut count: usize = 0;

@@ -18,6 +18,11 @@ pub(crate) fn help() {
         b"  round SPACE WORD ..                    the first round's words, in a space of SPACE words",
     );
     say(b"  opening SPACE WORD ..                  the opening's words, in such a space");
+    say(b"  fees RATE LEAST GREATEST SPACE LIST WORD ..");
+    say(
+        b"                                         the same, then 'fees' and each order's fee in hellers by",
+    );
+    say(b"                                         this tariff, in a list of LIST places");
     say(
         b"  indicative D H COUNT CLOSING AUCTION   the indicative price, by the count of pieces traded,",
     );

@@ -15,12 +15,12 @@ use Rattle.claims.proofs.Crossing.{crossed-potential, buys-limit, maxim
 use Rattle.claims.proofs.Fills.{fills-lawful, fills-largest}
 use Rattle.claims.specs.Orders.{left}
 use Rattle.rules.proofs.Grid.{moved-within}
+use Rattle.rules.proofs.Sums.{sum-each}
 use Rattle.rules.proofs.Tests.{by-test}
 use Rattle.rules.specs.AuctionPrice.{Auction, uncrossed, auction}
 use Rattle.rules.specs.Fills.{fillOf, total, fillsOf, purchasePrice}
 use Rattle.rules.specs.Grid.{lastPrice}
 use Rattle.rules.specs.Limits.{sameSide, numbered}
-use Rattle.rules.specs.Lists.{sumTo}
 use Rattle.rules.specs.Opening.{settled, roundOf, openingSpace}
 use Rattle.rules.specs.Sheet.{mostOrders, D, H, I}
 use Rattle.rules.specs.declared.Heading.{Heading}
@@ -70,11 +70,6 @@ most-space n few =
 
 -- ---- The round
 
-sum-each : (f : ℕ → ℕ) (n : ℕ) → ((j : ℕ) → j < n → f j ≤ 1000000) → sumTo f n ≤ 1000000 * n
-unfolding sumTo
-sum-each f zero each = zero-le
-sum-each f (suc n) each = omega (arith, sum-each f n (λ j l. each j (omega arith)), each n (omega arith))
-
 -- a purchase price is in the band, or 0
 pub purchase-le : (h : Heading) (a : Auction) (sum : ℕ) → D h ≤ H h → purchasePrice h a sum ≤ H h
 purchase-le h a sum band = by-test (λ p. p ≤ H h) (leb 1 sum) (λ e. moved-within (D h) (H h) (a .price) band .1) (λ e. zero-le)
@@ -92,7 +87,7 @@ module _ (h : Heading) (last : ℕ) (os : List Standing) (band : D h ≤ H h) (u
   total-le : (a : Auction) (s : Side) → total s os (fillsOf h a os) ≤ 120000000
   unfolding total
   total-le a s =
-      let each = sum-each (λ k. cond (sameSide s (numbered os k .side)) (fillOf (fillsOf h a os) k) 0) (length os)
+      let each = sum-each (λ k. cond (sameSide s (numbered os k .side)) (fillOf (fillsOf h a os) k) 0) 1000000 (length os)
       (λ j l. by-test (λ x. x ≤ 1000000) (sameSide s (numbered os j .side)) (λ e. fill-le a j l) (λ e. zero-le)) in
       omega (arith, each, small .few)
 

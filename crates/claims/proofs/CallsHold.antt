@@ -1,24 +1,31 @@
--- What the two calls that write promise beyond the rules' answer follows from that answer. The words in front of the space are those of
--- the rules, and they say what the rounds are: so what is claimed of the rules' rounds holds of the words that stand there.
-use mathlib.Core.List.{List, [], _++_}
-use mathlib.Core.Path.{_≡_, ap, _∙_}
+-- What the three calls that write promise beyond the rules' answer follows from that answer. The words in front of the space are those of
+-- the rules, and they say what the rounds are: so what is claimed of the rules' rounds holds of the words that stand there. With fees the
+-- rows of the tariff and of the fee list come on top; where neither arises the answer is that of the opening.
+use mathlib.Core.Bool.{true, not}
+use mathlib.Core.List.{List, [], _∷_, _++_}
+use mathlib.Core.Path.{_≡_, sym, ap, _∙_}
 use Prim.Native.Nat.{ℕ, _≤_}
 use native.Mathlib.Omega.{arith}
+use lib.Dec.{ltb}
 use lib.ListN.{length, drop}
+use borrow.Author.Tests.{le-ltb}
 use Rattle.claims.proofs.Demand3Holds.{demand3-holds}
 use Rattle.claims.proofs.Opening.{fills-count, number-fits}
 use Rattle.claims.proofs.ReadBack.{read-back}
 use Rattle.claims.proofs.RoundHolds.{round-holds}
 use Rattle.claims.proofs.Run.{startAt}
-use Rattle.claims.specs.Calls.{FirstRound, Opened}
+use Rattle.claims.specs.Calls.{FirstRound, Opened, OpenedWithFees}
 use Rattle.claims.specs.Fills.{Largest}
 use Rattle.claims.specs.Fits.{FitsWords}
 use Rattle.rules.proofs.Accepted.{accepted-sound, enough-words}
-use Rattle.rules.specs.Answers.{Answer, gives}
-use Rattle.rules.specs.Calls.{firstRound, opening, firstStanding, answerBy, answer, spaceAfter, Writes, wordsGiven}
+use Rattle.rules.proofs.Downwards.{downwards-append}
+use Rattle.rules.specs.Answers.{Answer, gives, row, downwards}
+use Rattle.rules.specs.Calls.{firstRound, opening, openingFees, firstStanding, answerBy, answer, spaceAfter, Writes, wordsGiven, feesGiven}
+use Rattle.rules.specs.Fees.{tariffStands}
 use Rattle.rules.specs.Opening.{Round, roundFrom, firstStart, roundWords, openingWords, roundSpace, openingSpace}
 use Rattle.rules.specs.Result.{count, roundSaid, auctionIn}
-use Rattle.rules.specs.Sheet.{headingOf, AcceptedSheet}
+use Rattle.rules.specs.Sheet.{headingOf, sheetChecks, AcceptedSheet}
+use Rattle.rules.specs.declared.Tariff.{Tariff}
 
 -- the first round of a sheet, by the rules
 abbrev pub roundOne : List ℕ → Round
@@ -52,6 +59,15 @@ module _ (ws : List ℕ) (accepted : AcceptedSheet ws) where
   unfolding answer answerBy openingWords
   opening-given enough = enough-words ws accepted (openingWords ws) enough
 
+-- where the tariff stands and each order has a place, the opening with fees answers what the opening answers, of every sheet
+pub as-opening : (ws : List ℕ) (t : Tariff) (space places : ℕ) → tariffStands t ≡ true → count ws ≤ places
+    → answer (openingFees ws t space places) ≡ answer (opening ws space)
+unfolding answer answerBy downwards
+as-opening ws t space places stands enough =
+    let few = row 10 (ltb space (openingSpace (count ws))) in
+    downwards-append (sheetChecks ws) (row 16 (not (tariffStands t)) ∷ few ∷ row 10 (ltb places (count ws)) ∷ []) _
+    ∙ rw (stands, le-ltb places (count ws) enough) (sym (downwards-append (sheetChecks ws) (few ∷ []) _))
+
 -- ---- The calls
 
 module _ {ws before after : List ℕ} {answered : Answer} where
@@ -70,4 +86,15 @@ module _ {ws before after : List ℕ} {answered : Answer} where
     writes = writes;
     demand3 = λ accepted enough.
         rw (ap wordsGiven (writes .answers ∙ opening-given ws accepted enough)) (demand3-holds ws accepted);
+  }
+
+  pub opening-fees-holds : {t : Tariff} {list listAfter : List ℕ} → Writes (openingFees ws t (length before) (length list)) before after answered
+      → listAfter ≡ spaceAfter (feesGiven t ws (answer (openingFees ws t (length before) (length list)))) list
+      → OpenedWithFees ws t before after list listAfter answered
+  opening-fees-holds {t} {list} writes charges = record {
+    writes = writes;
+    charges = charges;
+    opened = λ stands places.
+        let same = as-opening ws t (length before) (length list) stands places in
+        opening-holds (record { answers = writes .answers ∙ same; holds = rw same at (writes .holds) });
   }

@@ -21,6 +21,7 @@ pub mod RoundHolds
 pub mod Run
 pub mod Opening
 pub mod Demand3Holds
+pub mod Trades
 pub mod NothingOpen
 pub mod CallsHold
 pub mod Waiting

@@ -3,7 +3,7 @@
 -- call's own rows are left; a refused sheet refuses every call.
 use mathlib.Core.Bool.{Bool, true, false, _&&_, _||_}
 use mathlib.Core.List.{List, [], _∷_, _++_}
-use mathlib.Core.Path.{_≡_, _∙_}
+use mathlib.Core.Path.{_≡_, sym, ap, _∙_}
 use Prim.Native.Nat.{ℕ, zero, suc, _+_, _≤_, _<_}
 use native.Mathlib.Decide.{decLe}
 use native.Mathlib.Omega.{arith}
@@ -11,7 +11,7 @@ use lib.Dec.{leb, ltb, eqb}
 use lib.ListN.{length, getD}
 use borrow.Author.Tests.{leb-true, ltb-true, lt-ltb, le-ltb, eqb-true, not-false}
 use Rattle.rules.specs.Answers.{gives, refuses, Check, row, downwards}
-use Rattle.rules.specs.Calls.{onSheet}
+use Rattle.rules.specs.Calls.{onSheet, wordsGiven}
 use Rattle.rules.specs.Grid.{onGrid}
 use Rattle.rules.specs.Sheet.{orderPlace, headingOf, pricesOnGrid, bandEncloses, lengthFits, mostOrders, termsAllowed, quantityAllowed, ignoredAllowed, termsOf, orderFrom, orderAt, ordersOf, headingChecks, orderChecks, ordersChecks, sheetChecks, checkSheet, AcceptedSheet}
 use Rattle.rules.specs.declared.Heading.{Heading}
@@ -152,6 +152,12 @@ unfolding checkSheet
 sheet-refuses ws {n} {k} refused own vs =
     let stops : Stops (sheetChecks ws) n k = refused-stops (sheetChecks ws) [] refused in
     downwards-append (sheetChecks ws) own (gives vs) ∙ stops .refuses-all _
+
+-- where a call on a sheet gives something, it is what it would give where nothing arises
+pub given-words : (ws : List ℕ) (own : List Check) (words : List ℕ) {vs : List ℕ} → onSheet ws own words ≡ gives vs → vs ≡ words
+given-words ws own words e =
+    let clear : Clear (sheetChecks ws ++ own) = given-clear (sheetChecks ws ++ own) (gives words) e in
+    ap wordsGiven (sym e ∙ clear .hands-on (gives words))
 
 -- a call that is lent a space has one row: whether the space has the words that it needs
 module _ (ws : List ℕ) (accepted : AcceptedSheet ws) (vs : List ℕ) {needed size : ℕ} where

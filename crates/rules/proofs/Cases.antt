@@ -13,7 +13,8 @@ use Rattle.rules.specs.Answers.{Answer, gives, refuses, downwards}
 use Rattle.rules.specs.AuctionPrice.{level, uncrossed, auctionBy}
 use Rattle.rules.specs.Band.{bandStands, indicativePrice, nextUpper, nextLower, nextBandFor, percentOf, nextBand, widenedUpper, widenedLower, widenedFor, widenedBand}
 use Rattle.rules.specs.Calls.{answerBy, answer, wordsGiven}
-use Rattle.rules.specs.Cases.{Case, AllHold, documentCases, furtherCases, waitingCases, listing, listingResult, ListingSaid, AllPrint, printings}
+use Rattle.rules.specs.Cases.{Case, AllHold, documentCases, furtherCases, waitingCases, feeCases, AllCharge, charges, listing, listingResult, ListingSaid, AllPrint, printings}
+use Rattle.rules.specs.Fees.{tariffStands, fillFee, orderFee, tradeSaid, feesOn}
 use Rattle.rules.specs.Fills.{eligible, firstOf, total, offered, ahead, share, reaches, largestTotal, fillsOf}
 use Rattle.rules.specs.Grid.{onGrid, movedInto}
 use Rattle.rules.specs.Limits.{standing, piecesAt, enteredLimit, entered, stepped, limitInForce, standingBy}
@@ -65,19 +66,27 @@ all-same (c ∷ cs) e =
     let t = both {a = same (quickAnswer (c .call)) (c .expected)} e in
     (quick-answer (c .call) ∙ same-answer (quickAnswer (c .call)) (c .expected) (t .0), all-same cs (t .1))
 
--- P1–P12 hold, and so do the further cases and those of the waiting clock
-pub cases-hold : AllHold documentCases × AllHold furtherCases × AllHold waitingCases
-unfolding allSame same sameNumbers documentCases furtherCases waitingCases quickAnswer quickRound limitEnds levelEnds answerBy downwards headingKinds headingFrom headingOf pricesOnGrid bandEncloses lengthFits orderKinds termsAllowed quantityAllowed ignoredAllowed sideOf termsOf orderFrom orderAt ordersOf headingChecks orderChecks ordersChecks sheetChecks checkSheet onGrid movedInto listed sumTo everyTo largestTo piecesAt enteredLimit entered stepped limitInForce standingBy level uncrossed auctionBy eligible firstOf total offered ahead share reaches largestTotal fillsOf settled firstStart after goesOn endingAfter roundsFrom roundWords roundsWords endingOf resultWords openingBy bandStands indicativePrice nextUpper nextLower nextBandFor percentOf nextBand widenedUpper widenedLower widenedFor widenedBand waitingWord afterOutside afterInside timeIsUp afterTime afterSecond afterWord waitingChecks followed waitingClock
+-- P1–P12 hold, and so do the further cases, those of the waiting clock and those of fees
+pub cases-hold : AllHold documentCases × AllHold furtherCases × AllHold waitingCases × AllHold feeCases
+unfolding allSame same sameNumbers documentCases furtherCases waitingCases feeCases quickAnswer quickRound limitEnds levelEnds answerBy downwards headingKinds headingFrom headingOf pricesOnGrid bandEncloses lengthFits orderKinds termsAllowed quantityAllowed ignoredAllowed sideOf termsOf orderFrom orderAt ordersOf headingChecks orderChecks ordersChecks sheetChecks checkSheet onGrid movedInto listed sumTo everyTo largestTo piecesAt enteredLimit entered stepped limitInForce standingBy level uncrossed auctionBy eligible firstOf total offered ahead share reaches largestTotal fillsOf settled firstStart after goesOn endingAfter roundsFrom roundWords roundsWords endingOf resultWords openingBy bandStands indicativePrice nextUpper nextLower nextBandFor percentOf nextBand widenedUpper widenedLower widenedFor widenedBand waitingWord afterOutside afterInside timeIsUp afterTime afterSecond afterWord waitingChecks followed waitingClock tariffStands
 cases-hold = (
   all-same documentCases refl,
   all-same furtherCases refl,
   all-same waitingCases refl,
+  all-same feeCases refl,
 )
+
+-- the fees on results are those of the table
+pub charges-hold : AllCharge charges
+unfolding charges feesOn orderFee fillFee tradeSaid roundSaid movedInto headingFrom headingOf listed sumTo
+charges-hold =
+    (refl, (refl, (refl, (refl, (refl, (refl, (refl, (refl, (refl, (refl, (refl, (refl, (refl, (refl, (refl, (refl, (refl, tt)))))))))))))))))
 
 -- what the listing's words say
 pub listing-said : ListingSaid
-unfolding roundSaid startSaid standingSaid standing standingBy total after firstStart headingFrom headingOf sideOf termsOf orderFrom orderAt ordersOf listed sumTo
-listing-said = record { rounds = refl; first = refl; second = refl; pieces = refl; bought = refl }
+unfolding roundSaid startSaid standingSaid standing standingBy total after firstStart headingFrom headingOf sideOf termsOf orderFrom orderAt ordersOf listed sumTo feesOn orderFee fillFee tradeSaid movedInto
+listing-said =
+    record { rounds = refl; first = refl; second = refl; pieces = refl; bought = refl; fees = refl; noFees = refl }
 
 -- ---- The program's text
 

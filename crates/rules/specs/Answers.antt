@@ -19,7 +19,7 @@ use Rattle.rules.specs.declared.Phase.the-variants.{Idle, Waiting}
 use Rattle.rules.specs.declared.PriceAnswer.{PriceAnswer}
 use Rattle.rules.specs.declared.PriceAnswer.the-variants.{At, Refused as NoPrice}
 use Rattle.rules.specs.declared.Refusal.{Refusal}
-use Rattle.rules.specs.declared.Refusal.the-variants.{FewWords, HeadingKind, HeadingPrice, HeadingBand, Length, Order, Argument, AtWord, Band, Space, Input}
+use Rattle.rules.specs.declared.Refusal.the-variants.{FewWords, HeadingKind, HeadingPrice, HeadingBand, Length, Order, Argument, AtWord, Tariff, Band, Space, Input}
 use Rattle.rules.specs.declared.SpaceAnswer.{SpaceAnswer}
 use Rattle.rules.specs.declared.SpaceAnswer.the-variants.{Written, Refused as NoWords}
 use Rattle.rules.specs.declared.WaitingAnswer.{WaitingAnswer}
@@ -68,8 +68,8 @@ waitingFaultNumber Word = 13
 waitingFaultNumber Second = 14
 waitingFaultNumber Widening = 11
 
--- [2.3] All refusals: those of the heading, of an order, of the arguments, of a word of a waiting list, of the band, of
--- the space, and of the program's input.
+-- [2.3] All refusals: those of the heading, of an order, of the arguments, of a word of a waiting list, of the tariff, of
+-- the band, of the space, and of the program's input.
 abbrev pub refusalNumber : Refusal → ℕ
 refusalNumber FewWords = 1
 refusalNumber HeadingKind = 2
@@ -79,6 +79,7 @@ refusalNumber Length = 4
 refusalNumber (Order f k) = faultNumber f
 refusalNumber Argument = 9
 refusalNumber (AtWord f i) = waitingFaultNumber f
+refusalNumber Tariff = 16
 refusalNumber Band = 11
 refusalNumber Space = 10
 refusalNumber Input = 12
@@ -93,6 +94,7 @@ refusalPlace Length = 0
 refusalPlace (Order f k) = k
 refusalPlace Argument = 0
 refusalPlace (AtWord f i) = i
+refusalPlace Tariff = 0
 refusalPlace Band = 0
 refusalPlace Space = 0
 refusalPlace Input = 0

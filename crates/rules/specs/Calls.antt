@@ -1,4 +1,4 @@
--- Clauses 10.1–10.6 of docs/RULES.md: the calls and what each answers, with refusals 9 and 10 of those on a sheet.
+-- Clauses 10.1–10.6 of docs/RULES.md: the calls and what each answers, with refusals 9, 16 and 10 of those on a sheet.
 use mathlib.Core.Bool.{Bool, true, false, not, _&&_}
 use mathlib.Core.List.{List, [], _∷_, _++_}
 use mathlib.Core.Path.{_≡_}
@@ -8,17 +8,20 @@ use lib.ListN.{length, drop}
 use Rattle.rules.specs.Answers.{Answer, gives, refuses, Check, row, downwards}
 use Rattle.rules.specs.AuctionPrice.{Level, level, volume}
 use Rattle.rules.specs.Band.{indicativePrice, nextBand, widenedBand}
+use Rattle.rules.specs.Fees.{tariffStands, feesOn}
 use Rattle.rules.specs.Grid.{onGrid}
 use Rattle.rules.specs.Limits.{filed, numbered, standing}
 use Rattle.rules.specs.Opening.{Start, Round, roundFrom, firstStart, roundWords, openingBy, roundSpace, openingSpace}
 use Rattle.rules.specs.Sheet.{headingOf, ordersOf, sheetChecks, checkSheet}
 use Rattle.rules.specs.Waiting.{waitingClock}
 use Rattle.rules.specs.declared.Standing.{Standing}
+use Rattle.rules.specs.declared.Tariff.{Tariff}
 use Rattle.rules.specs.declared.Terms.{Terms}
 use Rattle.rules.specs.declared.Terms.the-variants.{WithoutLimit, Limited, Stepper}
 
--- [10.1] The five calls on a sheet, given as its words: check; limit in force of a Stepper, by its number; curves, at
--- a price; first round and opening, with the number of words of the space. Then indicative price, next band and
+-- [10.1] The six calls on a sheet, given as its words: check; limit in force of a Stepper, by its number; curves, at
+-- a price; first round and opening, with the number of words of the space; opening with fees, with the tariff, the
+-- number of words of the space and the number of places of the fee list. Then indicative price, next band and
 -- widening; and the waiting clock, on a band and the words of a waiting list.
 pub data Call : Type 0 where
   check : List ℕ → Call
@@ -26,6 +29,7 @@ pub data Call : Type 0 where
   curvesAt : List ℕ → ℕ → Call
   firstRound : List ℕ → ℕ → Call
   opening : List ℕ → ℕ → Call
+  openingFees : List ℕ → Tariff → ℕ → ℕ → Call
   indicative : ℕ → ℕ → ℕ → ℕ → ℕ → Call
   next : ℕ → ℕ → Call
   widen : ℕ → ℕ → ℕ → Call
@@ -63,6 +67,13 @@ answerBy first round (firstRound ws space) =
     onSheet ws (row 10 (ltb space (roundSpace (headingOf ws .count))) ∷ []) (roundWords (round ws (firstStart ws)))
 answerBy first round (opening ws space) =
     onSheet ws (row 10 (ltb space (openingSpace (headingOf ws .count))) ∷ []) (openingBy (round ws) ws)
+answerBy first round (openingFees ws t space places) =
+    onSheet ws
+    (row 16 (not (tariffStands t))
+    ∷ row 10 (ltb space (openingSpace (headingOf ws .count)))
+    ∷ row 10 (ltb places (headingOf ws .count))
+    ∷ [])
+    (openingBy (round ws) ws)
 answerBy first round (indicative D H traded closing auction) = indicativePrice D H traded closing auction
 answerBy first round (next code I) = nextBand code I
 answerBy first round (widen D H side) = widenedBand D H side
@@ -89,3 +100,8 @@ pub record Writes (call : Call) (before after : List ℕ) (answered : Answer) : 
 abbrev pub wordsGiven : Answer → List ℕ
 wordsGiven (gives words) = words
 wordsGiven (refuses n k) = []
+
+-- [10.6] What is given for the lent fee list: the fees on the words that the call gives, or its refusal.
+abbrev pub feesGiven : Tariff → List ℕ → Answer → Answer
+feesGiven t ws (gives words) = gives (feesOn t ws words)
+feesGiven t ws (refuses n k) = refuses n k

@@ -1,19 +1,26 @@
--- Clauses 12.1–12.6 of docs/RULES.md: P1–P12, further cases and those of the waiting clock, as one table with a common statement, that the rules
--- give the answer of the case; then the listing, from bytes to text. D is 90, H 110, the last purchase price 100 and
--- I 100, where a sheet says nothing else.
+-- Clauses 12.1–12.6 of docs/RULES.md: P1–P12, further cases, those of the waiting clock and of fees, with a common statement, that the rules
+-- give the answer of the case; then the fees on results, and the listing, from bytes to text. D is 90, H 110, the last purchase price 100
+-- and I 100, where a sheet says nothing else.
 use mathlib.Core.List.{List, [], _∷_, _++_, map}
 use mathlib.Core.Path.{_≡_}
 use Prim.Native.Nat.{ℕ, _+_, _*_}
 use Prim.Native.String.{String}
 use lib.ListN.{length, set, replicate}
 use Rattle.rules.specs.Answers.{Answer, gives, refuses}
-use Rattle.rules.specs.Calls.{Call, check, stepperLimit, curvesAt, firstRound, opening, indicative, next, widen, waiting, answer}
+use Rattle.rules.specs.Calls.{Call, check, stepperLimit, curvesAt, firstRound, opening, openingFees, indicative, next, widen, waiting, answer, feesGiven}
+use Rattle.rules.specs.Fees.{tariffOf, feesOn}
 use Rattle.rules.specs.Listing.{ascii, printed}
 use Rattle.rules.specs.Result.{roundsIn, roundSaid, startSaid, piecesOver, tradedOver}
 use Rattle.rules.specs.declared.Side.the-variants.{Buy}
+use Rattle.rules.specs.declared.Tariff.{Tariff}
 use Rattle.rules.specs.Words.{word}
 
 -- ---- The table's statement
+
+-- [12.1] A statement that holds of each row of a table.
+abbrev pub Each : {A : Type 0} → (A → Type 0) → List A → Type 0
+Each P [] = Unit {0}
+Each P (c ∷ cs) = P c × Each P cs
 
 -- [12.1] A call, and the answer that it has to get.
 pub record Case : Type 0 where
@@ -28,8 +35,7 @@ abbrev pub Holds : Case → Type 0
 Holds c = answer (c .call) ≡ c .expected
 
 abbrev pub AllHold : List Case → Type 0
-AllHold [] = Unit {0}
-AllHold (c ∷ cs) = Holds c × AllHold cs
+AllHold = Each Holds
 
 -- ---- Sheets and results in words
 
@@ -314,6 +320,86 @@ waitingCases =
     ∷ case (waiting 90 1000001 []) (refuses 9 0)
     ∷ []
 
+-- ---- Fees, worked out by hand
+
+-- [12.4b] The call for the listing's sheet, whose opening takes 19 words and whose fees take 2 places.
+unfoldable pub feeCases : List Case
+feeCases =
+    -- the words are those of the opening, whatever the tariff; more places than orders do no harm
+    case (openingFees listing (tariffOf 35 0 100000000) 19 2) (gives listingResult)
+    ∷ case (openingFees listing (tariffOf 0 0 0) 20 3) (gives listingResult)
+    -- both ends of each range, and beyond them
+    ∷ case (openingFees listing (tariffOf 10000 100000000 100000000) 19 2) (gives listingResult)
+    ∷ case (openingFees listing (tariffOf 10001 0 100000000) 19 2) (refuses 16 0)
+    ∷ case (openingFees listing (tariffOf 35 100000001 100000001) 19 2) (refuses 16 0)
+    ∷ case (openingFees listing (tariffOf 35 0 100000001) 19 2) (refuses 16 0)
+    -- least and greatest fee alike, and exchanged
+    ∷ case (openingFees listing (tariffOf 35 7 7) 19 2) (gives listingResult)
+    ∷ case (openingFees listing (tariffOf 35 8 7) 19 2) (refuses 16 0)
+    -- either space too small; the tariff comes before both, and the sheet before the tariff
+    ∷ case (openingFees listing (tariffOf 35 0 100) 18 2) (refuses 10 0)
+    ∷ case (openingFees listing (tariffOf 35 0 100) 19 1) (refuses 10 0)
+    ∷ case (openingFees listing (tariffOf 35 8 7) 18 1) (refuses 16 0)
+    ∷ case (openingFees (sheet (buy 4 95 ∷ sell 0 95 ∷ [])) (tariffOf 35 8 7) 0 0) (refuses 7 1)
+    -- no orders: a single round, and no place is needed
+    ∷ case (openingFees (sheet []) (tariffOf 35 0 100) 5 0) (gives (run 4 100 0 0 [] ++ (0xf0000001 ∷ [])))
+    ∷ []
+
+-- [12.4b] A tariff, a sheet, words in the form of a result, and the fees that they have to give. The words need not be
+-- those that the sheet's opening writes: a fee asks only what they say.
+pub record Charge : Type 0 where
+  pub tariff : Tariff
+  pub sheet : List ℕ
+  pub result : List ℕ
+  pub fees : List ℕ
+
+abbrev pub charge : Tariff → List ℕ → List ℕ → List ℕ → Charge
+charge t ws rs fees = record { tariff = t; sheet = ws; result = rs; fees = fees }
+
+abbrev pub AllCharge : List Charge → Type 0
+AllCharge = Each (λ c. feesOn (c .tariff) (c .sheet) (c .result) ≡ c .fees)
+
+-- [12.4b] Such words for the listing's two orders, which get the same pieces at this price in so many rounds.
+abbrev pub alike : ℕ → ℕ → ℕ → List ℕ
+alike rounds pieces price =
+    together (replicate rounds (run 0 price price pieces (pieces ∷ pieces ∷ []))) ++ (word 15 rounds ∷ [])
+
+-- [12.4b] Fees on results.
+unfoldable pub charges : List Charge
+charges =
+    -- 4 pieces at 105 are worth 4,200 hellers: 35 ten-thousandths are 14.7, 24 are 10.08, 25 are 10.5
+    charge (tariffOf 35 0 100000000) listing listingResult (15 ∷ 15 ∷ [])
+    ∷ charge (tariffOf 24 0 100000000) listing listingResult (10 ∷ 10 ∷ [])
+    ∷ charge (tariffOf 25 0 100000000) listing listingResult (11 ∷ 11 ∷ [])
+    -- a worth of 4,990 and of 5,000 hellers at a ten-thousandth
+    ∷ charge (tariffOf 1 0 100000000) listing (alike 1 1 499) (0 ∷ 0 ∷ [])
+    ∷ charge (tariffOf 1 0 100000000) listing (alike 1 1 500) (1 ∷ 1 ∷ [])
+    -- raised to the least fee, cut to the greatest, and neither at both ends; 10.5, rounded up, is just the least fee
+    ∷ charge (tariffOf 35 16 100) listing listingResult (16 ∷ 16 ∷ [])
+    ∷ charge (tariffOf 35 0 14) listing listingResult (14 ∷ 14 ∷ [])
+    ∷ charge (tariffOf 35 15 15) listing listingResult (15 ∷ 15 ∷ [])
+    ∷ charge (tariffOf 25 11 100) listing listingResult (11 ∷ 11 ∷ [])
+    -- P3: the purchase price 90 and not the auction price 80; the order that gets nothing pays nothing, whatever the least fee
+    ∷ charge (tariffOf 1000 0 100000000) (sheet (buy 5 95 ∷ buy 5 80 ∷ sell 10 70 ∷ []))
+    (run 0 80 90 5 (5 ∷ 0 ∷ 5 ∷ []) ++ (0xf0020001 ∷ []))
+    (450 ∷ 0 ∷ 450 ∷ [])
+    ∷ charge (tariffOf 1000 500 100000000) (sheet (buy 5 95 ∷ buy 5 80 ∷ sell 10 70 ∷ []))
+    (run 0 80 90 5 (5 ∷ 0 ∷ 5 ∷ []) ++ (0xf0020001 ∷ []))
+    (500 ∷ 0 ∷ 500 ∷ [])
+    -- two rounds: half a heller is rounded up in each, and each fee is raised
+    ∷ charge (tariffOf 1 0 100000000) listing (alike 2 1 500) (2 ∷ 2 ∷ [])
+    ∷ charge (tariffOf 1 3 100000000) listing (alike 2 1 500) (6 ∷ 6 ∷ [])
+    -- orders that trade in different rounds, at different prices
+    ∷ charge (tariffOf 100 0 100000000) (sheet (buy 7 105 ∷ sell 4 95 ∷ sell 3 100 ∷ []))
+    (run 0 100 100 4 (4 ∷ 4 ∷ 0 ∷ []) ++ run 0 105 105 3 (3 ∷ 0 ∷ 3 ∷ []) ++ (0xf0000002 ∷ []))
+    (72 ∷ 40 ∷ 32 ∷ [])
+    -- a million pieces at the highest price, and more than 32 bits over 43 rounds
+    ∷ charge (tariffOf 10000 0 100000000) listing (alike 1 1000000 1000000) (100000000 ∷ 100000000 ∷ [])
+    ∷ charge (tariffOf 10000 0 100000000) listing (alike 43 1000000 1000000) (4300000000 ∷ 4300000000 ∷ [])
+    -- nobody
+    ∷ charge (tariffOf 35 7 7) (sheet []) (run 4 100 0 0 [] ++ (0xf0000001 ∷ [])) []
+    ∷ []
+
 -- ---- What the words of the listing's result say
 
 -- [12.5] The words of the listing's result, read.
@@ -327,6 +413,9 @@ pub record ListingSaid : Type 0 where
   -- over the opening order 0 gets 4 pieces, and 4 are bought
   pub pieces : piecesOver listing listingResult 0 ≡ 4
   pub bought : tradedOver Buy listing listingResult ≡ 4
+  -- by 35 ten-thousandths both orders pay 15 hellers; where the call refuses there are no fees
+  pub fees : feesGiven (tariffOf 35 0 100) listing (gives listingResult) ≡ gives (15 ∷ 15 ∷ [])
+  pub noFees : feesGiven (tariffOf 35 0 100) listing (refuses 10 0) ≡ refuses 10 0
 
 -- ---- The program's text
 
@@ -339,8 +428,7 @@ abbrev pub prints : List ℕ → String → Printing
 prints bytes text = record { bytes = bytes; text = text }
 
 abbrev pub AllPrint : List Printing → Type 0
-AllPrint [] = Unit {0}
-AllPrint (p ∷ ps) = (printed (p .bytes) ≡ ascii (p .text)) × AllPrint ps
+AllPrint = Each (λ p. printed (p .bytes) ≡ ascii (p .text))
 
 -- [12.6] The bytes of the listing's sheet.
 abbrev pub listingBytes : List ℕ

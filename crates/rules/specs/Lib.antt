@@ -10,6 +10,7 @@ pub mod AuctionPrice
 pub mod Fills
 pub mod Opening
 pub mod Result
+pub mod Fees
 pub mod Band
 pub mod Waiting
 pub mod Calls

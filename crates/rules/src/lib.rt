@@ -87,6 +87,20 @@ pub struct Clock {
     pub due: u32,
 }
 
+// Clause 8.5: what is charged for a fill: so many ten-thousandths of its worth, and the least and the greatest
+// fee, in hellers.
+pub struct Tariff {
+    pub rate: u32,
+    pub least: u32,
+    pub greatest: u32,
+}
+
+// Clause 8.6: what an order gets in a round, and the round's purchase price.
+pub struct Trade {
+    pub pieces: Pieces,
+    pub purchase: Price,
+}
+
 // What may be wrong with an order.
 pub enum OrderFault {
     // A wrong kind in its three words.
@@ -127,9 +141,11 @@ pub enum Refusal {
     Argument,
     // A fault of the word at this place of a waiting list.
     AtWord(WaitingFault, usize),
+    // A tariff that does not stand.
+    Tariff,
     // A band that cannot be had.
     Band,
-    // Too few words in the lent space.
+    // Too few words in the lent space, or too few places in the lent fee list.
     Space,
     // Bytes that are no sheet: not a multiple of 4, or too many.
     Input,
@@ -174,6 +190,7 @@ impl Refusal {
             Refusal::Order(fault, _) => fault.number(),
             Refusal::Argument => 9,
             Refusal::AtWord(fault, _) => fault.number(),
+            Refusal::Tariff => 16,
             Refusal::Band => 11,
             Refusal::Space => 10,
             Refusal::Input => 12,
@@ -193,6 +210,7 @@ impl Refusal {
             Refusal::Order(_, order) => order,
             Refusal::Argument => 0,
             Refusal::AtWord(_, word) => word,
+            Refusal::Tariff => 0,
             Refusal::Band => 0,
             Refusal::Space => 0,
             Refusal::Input => 0,

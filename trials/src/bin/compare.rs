@@ -11,7 +11,7 @@ use std::thread::{available_parallelism, scope, sleep, Scope};
 use std::time::{Duration, Instant};
 use trials::case::Case;
 use trials::compare::{compare, Difference};
-use trials::lent::Lent;
+use trials::lent::Spaces;
 use trials::tally::Tally;
 
 /// Cases that a thread takes at a time.
@@ -19,6 +19,8 @@ const BLOCK: u64 = 4096;
 
 /// Words of the largest space that is lent: an opening's of 120 orders, and 1,000 more.
 const MOST_SPACE: usize = 16_005;
+/// Places of the longest list for fees, likewise.
+const MOST_FEES: usize = 1_120;
 
 struct Run {
     seed: u64,
@@ -49,7 +51,7 @@ impl Run {
 
     /// Takes blocks of cases until there are no more, or a lower one differs.
     fn work(&self) {
-        let (mut lent, mut tally) = (Lent::new(MOST_SPACE), Tally::default());
+        let (mut lent, mut tally) = (Spaces::new(MOST_SPACE, MOST_FEES), Tally::default());
         loop {
             let start = self.next.fetch_add(BLOCK, Ordering::Relaxed);
             if start >= self.end || !self.wanted(start) {
@@ -69,7 +71,7 @@ impl Run {
     fn block(
         &self,
         mut cases: Range<u64>,
-        lent: &mut Lent,
+        lent: &mut Spaces,
         tally: &mut Tally,
     ) -> Option<(u64, Difference)> {
         cases.find_map(|number| {

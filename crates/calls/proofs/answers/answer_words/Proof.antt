@@ -8,10 +8,10 @@ use Rattle.calls.proofs.answers.answer_words.Statement.{statement}
 use Rattle.calls.proofs.answers.answer_words.Tie as tie
 
 abbrev Inv-loop : tie.InvT-loop
-Inv-loop call fields count words₀ i₀ words i = (i ≤ count) × (length words ≡ 2048)
+Inv-loop call numbers fields count words₀ i₀ words i = (i ≤ count) × (length words ≡ 2048)
 
 abbrev μ-loop : tie.MeasureT-loop
-μ-loop call fields count words₀ i₀ words i = count - i
+μ-loop call numbers fields count words₀ i₀ words i = count - i
 
 returns : tie.Need-returns Inv-loop μ-loop
 returns c = search tests

@@ -6,10 +6,10 @@ use Rattle.calls.proofs.space.print_words.Statement.{statement}
 use Rattle.calls.proofs.space.print_words.Tie as tie
 
 abbrev Inv-loop : tie.InvT-loop
-Inv-loop words i₀ t3 i = i ≤ length words
+Inv-loop words i₀ i = i ≤ length words
 
 abbrev μ-loop : tie.MeasureT-loop
-μ-loop words i₀ t3 i = length words - i
+μ-loop words i₀ i = length words - i
 
 loop-holds : tie.Need-loop-holds Inv-loop μ-loop
 loop-holds c = search tests
@@ -32,12 +32,6 @@ loop-less c = search tests
 loop-again : tie.Need-loop-again Inv-loop μ-loop
 loop-again c = search tests
 
-slice-aggregate-write-all : tie.Need-slice-aggregate-write-all Inv-loop μ-loop
-slice-aggregate-write-all c = search tests
-
-write-all-requires : tie.Need-write-all-requires Inv-loop μ-loop
-write-all-requires c κs = search tests
-
 returns : tie.Need-returns Inv-loop μ-loop
 returns c = search tests
 
@@ -54,6 +48,4 @@ print-words-spec =
     add-i
     loop-less
     loop-again
-    slice-aggregate-write-all
-    write-all-requires
     returns)

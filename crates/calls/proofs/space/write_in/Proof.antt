@@ -20,6 +20,12 @@ slice-aggregate-print-words c = simp length-take (omega arith)
 print-words-requires : tie.Need-print-words-requires
 print-words-requires c κs = search needs
 
+slice-aggregate-write-all : tie.Need-slice-aggregate-write-all
+slice-aggregate-write-all c = search needs
+
+write-all-requires : tie.Need-write-all-requires
+write-all-requires c κs = search needs
+
 enum-known-answer-2 : tie.Need-enum-known-answer-2
 enum-known-answer-2 c = search needs
 
@@ -53,6 +59,8 @@ write-in-spec =
     slice-reshare-prefix-print-words
     slice-aggregate-print-words
     print-words-requires
+    slice-aggregate-write-all
+    write-all-requires
     enum-known-answer-2
     print-refusal-requires
     same-length

@@ -1,0 +1,2 @@
+-- Laws of fees, for the proofs of the functions.
+pub mod Charging
