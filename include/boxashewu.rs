@@ -258,7 +258,7 @@ pub fn opening<'a>(words: &[u32], space: &'a mut [u32]) -> Result<&'a [u32], Ref
 }
 
 /// The words of the opening, likewise, and then the n fees by a tariff, in hellers, the fee of order k at place k; they now stand at the
-/// start of the fee list. The other places of the list keep what they held, and space and list all of it where the call refuses. How a
+/// start of the fee list. The other places of the list keep what they held; after a refusal space and list keep all that they held. How a
 /// fee is worked out is said in boxashewu.h, at auction_opening_fees. Refusals: those of a sheet; 16 if the tariff is not allowed; 10 if
 /// the space has fewer than (n + 1) × (n + 4) + 1 words or the list fewer than n places.
 pub fn opening_fees<'a, 'b>(

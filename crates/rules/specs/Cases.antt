@@ -322,7 +322,7 @@ waitingCases =
 
 -- ---- Fees, worked out by hand
 
--- [12.4b] The call for the listing's sheet, whose opening takes 19 words and whose fees take 2 places.
+-- [12.4b] The call, mostly for the listing's sheet: its opening needs a space of 19 words, and its fees need 2 places.
 unfoldable pub feeCases : List Case
 feeCases =
     -- the words are those of the opening, whatever the tariff; more places than orders do no harm
@@ -374,7 +374,7 @@ charges =
     -- a worth of 4,990 and of 5,000 hellers at a ten-thousandth
     ∷ charge (tariffOf 1 0 100000000) listing (alike 1 1 499) (0 ∷ 0 ∷ [])
     ∷ charge (tariffOf 1 0 100000000) listing (alike 1 1 500) (1 ∷ 1 ∷ [])
-    -- raised to the least fee, cut to the greatest, and neither at both ends; 10.5, rounded up, is just the least fee
+    -- raised to the least fee, cut to the greatest, and one that is both already; 10.5, rounded up, is just the least fee
     ∷ charge (tariffOf 35 16 100) listing listingResult (16 ∷ 16 ∷ [])
     ∷ charge (tariffOf 35 0 14) listing listingResult (14 ∷ 14 ∷ [])
     ∷ charge (tariffOf 35 15 15) listing listingResult (15 ∷ 15 ∷ [])
