@@ -1,9 +1,10 @@
--- A call that is lent a space: a refusal leaves it as it was; words that are given stand in front of it.
+-- A call that is lent a space: a refusal leaves it as it was; words that are given stand in front of it, and have room there.
 use mathlib.Core.List.{List, _++_}
 use mathlib.Core.Path.{_≡_, sym, ap, _∙_}
-use Prim.Native.Nat.{ℕ}
-use lib.ListN.{length, drop}
-use Rattle.rules.proofs.Lists.{first-words}
+use Prim.Native.Nat.{ℕ, _≤_}
+use native.Mathlib.Omega.{arith}
+use lib.ListN.{length, drop, getD, length-append}
+use Rattle.rules.proofs.Lists.{length-listed, first-words}
 use Rattle.rules.specs.Answers.{gives, refuses, firstWords, spaceAnswer}
 use Rattle.rules.specs.Calls.{Call, answer, Writes}
 use Rattle.rules.specs.declared.SpaceAnswer.{SpaceAnswer}
@@ -22,3 +23,10 @@ words-write {call} {words} {before} {after} {count} given long holds = record {
   answers = ap gives (rw holds (first-words words (drop count before) count long)) ∙ sym given;
   holds = rw (given, long) holds;
 }
+
+-- no more words are given than the space has
+pub words-fit : {call : Call} {before after : List ℕ} (written : ℕ) → Writes call before after (gives (firstWords written after)) → written ≤ length after
+words-fit {call} {before} {after} written writes =
+    let given = firstWords written after in
+    let stand : after ≡ given ++ drop (length given) before = writes .holds ∙ rw (← writes .answers) in
+    omega (arith, ap length stand ∙ length-append given (drop (length given) before), length-listed (λ i. getD after i 0) written)

@@ -6,7 +6,7 @@ use mathlib.Core.Path.{_≡_, refl, sym, ap, _∙_}
 use Prim.Native.Nat.{ℕ, _+_, _≤_, _<_}
 use native.Mathlib.Omega.{arith}
 use lib.Dec.{ltb}
-use lib.ListN.{length, take, drop, length-append}
+use lib.ListN.{length, take, drop}
 use borrow.Author.Tests.{lt-ltb}
 use Rattle.claims.proofs.Bounds.{most-space}
 use Rattle.claims.proofs.CallsHold.{as-opening, opening-fees-holds}
@@ -35,7 +35,7 @@ use Rattle.run.specs.Accepted.{AcceptedAs}
 use Rattle.sheet.specs.Reading.{ReadsAs}
 use Rattle.sheet.specs.declared.Reading.{Reading}
 use Rattle.auction.proofs.FirstRound.{refused-call}
-use Rattle.auction.proofs.Spaces.{refusal-writes}
+use Rattle.auction.proofs.Spaces.{refusal-writes, words-fit}
 
 -- ---- The words of a result, read by their places
 
@@ -98,18 +98,9 @@ module _ {ws before after : List ℕ} (written : ℕ) (writes : Writes (opening 
   unfolding answer answerBy openingWords
   opened-words = given-words ws _ (openingWords ws) (sym (writes .answers))
 
-  given-opening : answer (opening ws (length before)) ≡ gives (openingWords ws)
-  given-opening = sym (writes .answers) ∙ ap gives opened-words
-
   -- and stand in front of the space
-  pub words-fit : written ≤ length after
-  words-fit =
-      let counted : written ≡ length (openingWords ws) = sym (length-listed _ written) ∙ ap length opened-words in
-      let stand : after ≡ openingWords ws ++ drop (length (openingWords ws)) before = rw given-opening at (writes .holds) in
-      rw (stand, length-append) (omega (arith, counted))
-
   words-taken : take written after ≡ openingWords ws
-  words-taken = sym (first-taken after written words-fit) ∙ opened-words
+  words-taken = sym (first-taken after written (words-fit written writes)) ∙ opened-words
 
 -- ---- The opening runs
 

@@ -17,11 +17,15 @@ fn all_words() -> [u32; 16384]
     [0; 16384]
 }
 
-// As many words of those asked for as there are.
-fn lent(words: u64) -> usize
-    ensures { λ r. ⌜ r ≤ 16384 ⌝ }
+// As many words, or places, of those asked for as there are.
+fn lent(asked: u64, most: usize) -> usize
+    ensures { λ r. ⌜ r ≤ most ⌝ }
 {
-    if words < 16384 { words as usize } else { WORDS }
+    if asked < most as u64 {
+        asked as usize
+    } else {
+        most
+    }
 }
 
 fn print_word(word: u32, first: bool) {
@@ -69,7 +73,7 @@ fn write_in(call: Writes, words: &[u32], space: &mut [u32]) {
 // The call with a space of so many words.
 pub(crate) fn print_written(call: Writes, size: u64, words: &[u32]) {
     let mut space = all_words();
-    let size = lent(size);
+    let size = lent(size, WORDS);
     write_in(call, words, &mut space[..size]);
 }
 
@@ -80,17 +84,6 @@ fn all_places() -> [u64; 128]
     ensures { λ r. ⌜ 128 ≡ length r ⌝ }
 {
     [0; 128]
-}
-
-// As many places of those asked for as there are.
-fn lent_places(places: u64) -> usize
-    ensures { λ r. ⌜ r ≤ 128 ⌝ }
-{
-    if places < 128 {
-        places as usize
-    } else {
-        PLACES
-    }
 }
 
 // How many orders a sheet says that it has.
@@ -133,7 +126,7 @@ fn charge_in(tariff: Tariff, words: &[u32], space: &mut [u32], fees: &mut [u64])
 pub(crate) fn print_charged(tariff: Tariff, size: u64, places: u64, words: &[u32]) {
     let mut space = all_words();
     let mut fees = all_places();
-    let size = lent(size);
-    let places = lent_places(places);
+    let size = lent(size, WORDS);
+    let places = lent(places, PLACES);
     charge_in(tariff, words, &mut space[..size], &mut fees[..places]);
 }

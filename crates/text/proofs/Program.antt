@@ -2,23 +2,22 @@
 -- accepted sheet asks for: so row 10 never arises, and the answer is that of the sheet's checks alone.
 use mathlib.Core.Bool.{true, false}
 use mathlib.Core.List.{List, [], _∷_, _++_}
-use mathlib.Core.Path.{_≡_, refl, sym, ap, _∙_}
+use mathlib.Core.Path.{_≡_, refl, sym, _∙_}
 use Prim.Native.Nat.{ℕ, _+_, _*_, _/_, _%_, _≤_}
 use native.Mathlib.Omega.{arith}
 use lib.Dec.{eqb}
-use lib.ListN.{length, getD}
+use lib.ListN.{length}
 use borrow.Author.Tests.{eqb-true, leb-true, le-ltb}
+use Rattle.auction.proofs.Spaces.{words-fit}
 use Rattle.claims.proofs.Bounds.{most-space}
-use Rattle.claims.proofs.Demand3Holds.{result-fits}
 use Rattle.rules.proofs.Accepted.{accepted-sound}
 use Rattle.rules.proofs.Downwards.{Clear, Stops, given-clear, refused-stops, downwards-append}
 use Rattle.rules.proofs.Grid.{both}
-use Rattle.rules.proofs.Lists.{length-listed}
-use Rattle.rules.specs.Answers.{Answer, gives, refuses, Check, downwards, firstWords, spaceAnswer}
-use Rattle.rules.specs.Calls.{opening, answerBy, answer, wordsGiven}
+use Rattle.rules.specs.Answers.{Answer, gives, refuses, Check, downwards, spaceAnswer}
+use Rattle.rules.specs.Calls.{Call, opening, answerBy, answer, Writes}
 use Rattle.rules.specs.Listing.{mostBytes, inputFits, sheetIn, programAnswer}
 use Rattle.rules.specs.Opening.{openingWords, openingSpace}
-use Rattle.rules.specs.Sheet.{headingOf, sheetChecks, checkSheet, AcceptedSheet}
+use Rattle.rules.specs.Sheet.{headingOf, sheetChecks, checkSheet}
 use Rattle.rules.specs.declared.SpaceAnswer.{SpaceAnswer}
 use Rattle.rules.specs.declared.SpaceAnswer.the-variants.{Written, Refused}
 use Rattle.text.specs.Steps.{Within}
@@ -63,18 +62,9 @@ opening-answer ws =
     (most-space (headingOf ws .count) (accepted-sound ws (clear .hands-on (gives [])) .heading .count)))
 
 -- no more words are written than the space has
-pub written-within : (ws : List ℕ) (space : List ℕ) → length space ≡ 15005 → (a : SpaceAnswer) (after : List ℕ) → length after ≡ length space
-    → spaceAnswer a after ≡ answer (opening ws (length space)) → Within a (length after)
-unfolding checkSheet
-written-within ws space long (Refused r) after kept answers = tt
-written-within ws space long (Written count) after kept answers =
-    let given : gives (firstWords count after) ≡ downwards (sheetChecks ws) (gives (openingWords ws)) =
-    rw (long, opening-answer ws) at answers in
-    let clear : Clear (sheetChecks ws) = given-clear (sheetChecks ws) (gives (openingWords ws)) (sym given) in
-    let passes : AcceptedSheet ws = clear .hands-on (gives []) in
-    let words : firstWords count after ≡ openingWords ws = ap wordsGiven (given ∙ clear .hands-on (gives (openingWords ws))) in
-    let few : openingSpace (headingOf ws .count) ≤ 15005 = most-space (headingOf ws .count) (accepted-sound ws passes .heading .count) in
-    omega (arith, length-listed (λ i. getD after i 0) count, ap length words, result-fits ws passes)
+pub written-within : {call : Call} {before after : List ℕ} (a : SpaceAnswer) → Writes call before after (spaceAnswer a after) → Within a (length after)
+written-within (Refused r) writes = tt
+written-within (Written count) writes = words-fit count writes
 
 -- what the call answers for the words read, with a space of just so many words
 pub opened-answer : {words sheet : List ℕ} (space : List ℕ) {answered : Answer} → words ≡ sheet → length space ≡ 15005

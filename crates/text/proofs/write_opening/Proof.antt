@@ -17,7 +17,7 @@ write-answer-requires c κs =
     let start = c .before .before .before .before .before .before .before .before .before .before .before .before .before .before .before in (
       omega (arith, start .pre .2),
       omega (arith, start .pre .1, start .pre .2, opened .kept .1 .0),
-      written-within _ (start .args .space .now) (start .pre .1) (opened .result) _ (opened .kept .1 .0) (opened .ensures .writes .answers),
+      written-within (opened .result) (opened .ensures .writes),
     )
 
 same-length : tie.Need-same-length

@@ -9,8 +9,8 @@ use lib.ListN.{length-take}
 use borrow.Author.Tests.{not-true, not-false}
 use borrow.Author.Needs.{needs}
 use Rattle.auction.proofs.FirstRound.{accepted-as}
-use Rattle.auction.proofs.Spaces.{answered-as}
-use Rattle.auction.proofs.WithFees.{sheet-refused, tariff-refused, list-refused, space-refused, words-fit, words-chargeable, fees-written}
+use Rattle.auction.proofs.Spaces.{answered-as, words-fit}
+use Rattle.auction.proofs.WithFees.{sheet-refused, tariff-refused, list-refused, space-refused, words-chargeable, fees-written}
 use Rattle.rules.specs.Fees.{tariffStands}
 use Rattle.rules.specs.declared.SpaceAnswer.the-variants.{Written, Refused}
 use Rattle.run.specs.Accepted.{AcceptedAs}

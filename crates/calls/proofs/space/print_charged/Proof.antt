@@ -14,8 +14,8 @@ all-places-requires c κs = search needs
 lent-requires : tie.Need-lent-requires
 lent-requires c κs = search needs
 
-lent-places-requires : tie.Need-lent-places-requires
-lent-places-requires c κs = search needs
+lent-requires-2 : tie.Need-lent-requires-2
+lent-requires-2 c κs = search needs
 
 array-borrow-prefix-space : tie.Need-array-borrow-prefix-space
 array-borrow-prefix-space c = search needs
@@ -27,7 +27,7 @@ array-borrow-prefix-fees : tie.Need-array-borrow-prefix-fees
 array-borrow-prefix-fees c = search needs
 
 slice-aggregate-charge-in-2 : tie.Need-slice-aggregate-charge-in-2
-slice-aggregate-charge-in-2 c = simp length-take (omega (arith, c .before .before .lent-places .ensures))
+slice-aggregate-charge-in-2 c = simp length-take (omega (arith, c .before .before .lent2 .ensures))
 
 charge-in-requires : tie.Need-charge-in-requires
 charge-in-requires c κs = search needs
@@ -42,7 +42,7 @@ print-charged-spec =
     all-words-requires
     all-places-requires
     lent-requires
-    lent-places-requires
+    lent-requires-2
     array-borrow-prefix-space
     slice-aggregate-charge-in
     array-borrow-prefix-fees
