@@ -15,13 +15,15 @@
  * to 1,000,000 pieces; orders are numbered from 0, as they stand on the sheet. Fees are in hellers, a hundred to a crown.
  *
  * Words. A word is 32 bits: its kind in the upper 4, its value in the lower 28. A sheet is 5 + 3n words, for n orders from
- * none to 120. A result is the words of its rounds one after the other, 4 + n each, and a last word.
+ * none to 120, or 6 + 3n with a step word, which stands behind the first five; nothing but the length tells whether it is
+ * there. A result is the words of its rounds one after the other, 4 + n each, and a last word.
  *
  *     sheet   kind 1    D
  *                  2    H
  *                  3    last purchase price, in the band or not
  *                  4    I, the indicative price, above D and below H
  *                  5    n
+ *                  0    the step, 1 to 1,000, in a sheet of 6 + 3n words; in one of 5 + 3n the step is 1
  *     order   kind 6    a buy, or 7 a sell: the lower 24 bits its limit, in the band or not, or 0 for none, which counts
  *                       as H for a buy and D for a sell; the 4 bits above them its disposition: 0 basic, 1 all-or-none,
  *                       2 Stepper, which always has a limit
@@ -47,8 +49,8 @@
  *                  3    one below it: 0x30000000
  *                  4    one inside it: 0x40000000
  *
- * A Stepper stands one step ahead of its rivals, the other orders of its side, as far as its own limit lets it: that is its
- * limit in force.
+ * A Stepper stands the sheet's step ahead of its rivals, the other orders of its side, as far as its own limit lets it: that is
+ * its limit in force.
  *
  * Answers. Every record begins with `refusal`: 0 where the call answers, else the number of the refusal. Then all numbers
  * of the record that the call would give are 0, and lent lists keep what they held. For refusals 5 to 8 `order` is the
@@ -58,7 +60,7 @@
  *      1  a sheet of fewer than 5 words
  *      2  a word of a wrong kind in the heading, the first 5 words
  *      3  a price of the heading that is off the grid, the last purchase price too
- *      4  more than 120 orders, or not 5 + 3n words
+ *      4  more than 120 orders, or neither 5 + 3n words nor 6 + 3n
  *      5  a word of a wrong kind in an order
  *      6  a disposition above 2, a limit off the grid, a Stepper without limit
  *      7  a quantity of 0 or above 1,000,000
@@ -70,11 +72,13 @@
  *     14  a second of a waiting list that is lower than the one before it
  *     15  D not below I, or I not below H, in a heading whose prices are all on the grid
  *     16  a rate above 10,000, a least or greatest fee above 100,000,000, a least fee above the greatest
+ *     17  in a sheet of 6 + 3n words, word 5 (the sixth) not of kind 0 or its value not 1 to 1,000; so also where a sheet without
+ *         a step word has one word too many
  *
- * The first fault is the answer. They are judged in this order: of the heading 1, 2, 3, 15, 4, each over all its words
+ * The first fault is the answer. They are judged in this order: of the heading 1, 2, 3, 15, 17, 4, each over all its words
  * before the next; then of each order in turn 5 to 8, likewise; then 9 or 16; then of each word of a waiting list in turn
- * 13, 14, 11; last 10, or 11 where a band is all that is asked for. Those of heading and orders, 1 to 8 and 15, are the
- * refusals of a sheet. (12 is of the opening program alone, for bytes that are no list of words.)
+ * 13, 14, 11; last 10, or 11 where a band is all that is asked for. Those of heading and orders, 1 to 8, 15 and 17, are
+ * the refusals of a sheet. (12 is of the opening program alone, for bytes that are no list of words.)
  *
  * What a caller owes. No call can check these, and if one of them fails, nothing is promised:
  *
@@ -99,9 +103,9 @@
 extern "C" {
 #endif
 
-/* Words that are always enough, as they are those for 120 orders. With n orders a sheet has 5 + 3n words, a first round asks
- * for a space of 4 + n, and an opening for one of (n + 1) x (n + 4) + 1, even where it then writes fewer. */
-#define AUCTION_SHEET_WORDS 365
+/* Words that are always enough, as they are those for 120 orders. With n orders a sheet has 5 + 3n words, or 6 + 3n, a first
+ * round asks for a space of 4 + n, and an opening for one of (n + 1) x (n + 4) + 1, even where it then writes fewer. */
+#define AUCTION_SHEET_WORDS 366
 #define AUCTION_ROUND_WORDS 124
 #define AUCTION_OPENING_WORDS 15005
 

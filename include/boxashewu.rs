@@ -16,9 +16,9 @@
 
 use std::fmt;
 
-/// Words that are always enough, as they are those for 120 orders. With n orders a sheet has 5 + 3n words, a first round asks for a
-/// space of 4 + n, and an opening for one of (n + 1) × (n + 4) + 1, even where it then writes fewer.
-pub const SHEET_WORDS: usize = 365;
+/// Words that are always enough, as they are those for 120 orders. With n orders a sheet has 5 + 3n words, or 6 + 3n, a first round asks
+/// for a space of 4 + n, and an opening for one of (n + 1) × (n + 4) + 1, even where it then writes fewer.
+pub const SHEET_WORDS: usize = 366;
 pub const ROUND_WORDS: usize = 124;
 pub const OPENING_WORDS: usize = 15005;
 

@@ -19,7 +19,7 @@ from collections import Counter
 PROJECT = os.path.dirname(os.path.dirname(os.path.abspath(__file__)))
 CALLS_A_FILE = 10
 # What the rules answer is computed by the checker: beyond some twenty orders that takes too many steps.
-MOST_WORDS = 5 + 3 * 20
+MOST_WORDS = 6 + 3 * 20
 
 
 def reference(*words, text=None):
@@ -36,7 +36,7 @@ def imports_and_names():
     lines = [line for line in proof.splitlines() if line.startswith("use Rattle·") and ".Cases." not in line]
     for ours, theirs in own.items():
         lines = [line.replace(ours, theirs) for line in lines]
-    names = re.search(r"^unfolding allSame same sameNumbers documentCases furtherCases waitingCases feeCases (.*)$", proof, re.M)
+    names = re.search(r"^unfolding allSame same sameNumbers documentCases furtherCases waitingCases feeCases stepCases (.*)$", proof, re.M)
     charged = re.search(r"^unfolding charges (.*)$", proof, re.M)
     return lines, names.group(1), charged.group(1)
 
@@ -156,14 +156,17 @@ def coverage(lines, answers):
 
 
 def orders_of(sheet):
-    """Of the sheet of an opening: what its orders have."""
-    orders = [sheet[at] for at in range(5, len(sheet), 3)]
+    """Of the sheet of an opening: what its orders have, and whether it has a step word, which one word more tells."""
+    stepped = len(sheet) % 3 == 0
+    orders = [sheet[at] for at in range(5 + stepped, len(sheet), 3)]
     limits = [order & 0xFFFFFF for order in orders]
     lower, upper = sheet[0] & 0xFFFFFFF, sheet[1] & 0xFFFFFFF
     kinds = Counter((order >> 28, order >> 24 & 15) for order in orders)
     has = {
         "with all-or-none orders": any(kind[1] == 1 for kind in kinds),
         "with Steppers": any(kind[1] == 2 for kind in kinds),
+        "with a step word": stepped,
+        "with Steppers and a step word of more than 1": stepped and sheet[5] > 1 and any(kind[1] == 2 for kind in kinds),
         "with Steppers on both sides": (6, 2) in kinds and (7, 2) in kinds,
         "with several Steppers on a side": kinds[6, 2] > 1 or kinds[7, 2] > 1,
         "with orders without limit": 0 in limits,

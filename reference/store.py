@@ -1,7 +1,7 @@
 #!/usr/bin/env python3
 """Picks stored lines for the program `calls` from random ones of the reference implementation.
 
-usage: store.py KIND SEED LINES ANSWERS     KIND as in `reference sheets KIND COUNT SEED`
+usage: store.py KIND SEED LINES ANSWERS     KIND as in `reference sheets KIND COUNT SEED`, or step
 
 Of the random lines it takes the first 200 of small sheets (up to 30 orders), the first 40 of large ones (100 orders and more)
 and the first 8 of each refusal (up to 40 orders), and appends them to the file LINES and the reference implementation's answers
@@ -11,7 +11,9 @@ to 9 rounds, 3 of 10 and more and 3 of 60, and of both calls 40 for which the sp
 up to 60 words and 4 of more for each of 0, 1, 2 to 9 and more openings due, with a phase that is on and with none, and 24 of each
 refusal. Of small openings with fees it takes, where an order is charged, 60 of one round, 60 of two and 60 of three or more, where
 none is, 20; of large ones 10 of up to 9 rounds, 2 of 10 and more, and 2 in which an order's fee needs more than 32 bits; and 24 for
-which the tariff is not allowed and 24 for which a space is too small.
+which the tariff is not allowed and 24 for which a space is too small. For `step` it goes through random lines of every call on a sheet
+and takes only those whose sheet has the length of one with a step word: of each call 36 of small sheets and 5 of large ones, and
+of all together 40 for which the step word is wrong.
 """
 import collections
 import pathlib
@@ -29,8 +31,9 @@ def reference(*words, given=None):
     return subprocess.run(command, input=given, capture_output=True, text=True, check=True).stdout
 
 
+ON_A_SHEET = ("check", "stepper", "curves", "round", "opening", "fees")
 count = {"round": "12000", "opening": "20000", "fees": "12000"}.get(kind, "3000")
-lines = reference("sheets", kind, count, seed)
+lines = "".join(reference("sheets", call, count, seed) for call in (ON_A_SHEET if kind == "step" else [kind]))
 answers = reference("calls", given=lines).splitlines()
 
 ROUNDS = ("1 round", "2 rounds", "3 rounds and more")
@@ -48,6 +51,8 @@ if kind == "waiting":
     MOST = {f"{size}, phase {phase}, {due} due": most for size, most in {"short": 24, "long": 4}.items()
             for phase in (0, 1) for due in ("0", "1", "2 to 9", "more")}
     MOST |= {number: 24 for number in ("9", "11", "13", "14")}
+if kind == "step":
+    MOST = {f"{call}, {size}": most for call in ON_A_SHEET for size, most in {"small": 36, "large": 5}.items()} | {"17": 40}
 LONGEST = 4096
 
 
@@ -95,15 +100,23 @@ def sort_of(line, answer):
     """What a line is picked as: a refusal's number, a sort of small or of large, or None."""
     if kind == "waiting":
         return waiting_sort(line, answer)
-    words = line.split()[{"check": 1, "fees": 6}.get(kind, 2):]
+    call = line.split()[0]
+    words = line.split()[{"check": 1, "fees": 6}.get(call, 2):]
     orders = (len(words) - 5) // 3
-    if len(line) > LONGEST:
+    if len(line) > LONGEST or kind == "step" and not has_step_word(words):
         return None
     if answer.startswith("refused"):
         return answer.split()[1] if orders <= 40 else None
     if orders <= 30:
-        return small_sort(answer)
-    return large_sort(answer) if orders >= 100 else None
+        return small_sort(answer) if kind != "step" else f"{call}, small"
+    if orders >= 100:
+        return large_sort(answer) if kind != "step" else f"{call}, large"
+    return None
+
+
+def has_step_word(words):
+    """Whether a sheet has the length of one with a step word."""
+    return len(words) > 5 and len(words) == 6 + 3 * (int(words[4], 16) % 2**28)
 
 
 heading = f"# {kind}: of {count} random lines with seed {seed}, answered by the reference implementation"

@@ -3,7 +3,7 @@
 use crate::answer::{hexadecimal, Opening, Round};
 use crate::random::Random;
 use crate::shapes::{random_sheet, Sizes};
-use crate::sheet::{read, Grid, Pieces, Sheet};
+use crate::sheet::{read, Grid, Pieces, QuotationStep, Sheet, Side, Terms};
 use crate::{fast, literal};
 
 /// What the sheets of a comparison came to.
@@ -18,12 +18,18 @@ struct Tally {
     all_or_none_left: u64,
     outside_band: u64,
     with_steppers: u64,
+    with_step_word: u64,
+    /// Openings that would not be the same by the usual step.
+    changed_by_step: u64,
+    /// Steppers of first rounds, buys and sells, whose step leads off the grid.
+    off_grid: [u64; 2],
 }
 
 impl Tally {
-    fn add(&mut self, sheet: &Sheet, opening: &Opening) {
+    fn add(&mut self, sheet: &Sheet, grid: Grid, opening: &Opening) {
         let rounds = opening.rounds.len();
         self.sheets += 1;
+        self.add_step(sheet, grid, opening);
         self.rounds[rounds.min(4) - 1] += 1;
         self.most_rounds = self.most_rounds.max(rounds);
         self.endings[opening.ending as usize] += 1;
@@ -52,6 +58,26 @@ impl Tally {
         self.with_steppers += u64::from(live().any(|(_, order)| order.is_stepper()));
     }
 
+    fn add_step(&mut self, sheet: &Sheet, grid: Grid, opening: &Opening) {
+        let usual = sheet.with_step(None);
+        let changed = fast::opening::opening(&usual, grid) != *opening;
+        self.with_step_word += u64::from(sheet.step.is_some());
+        self.changed_by_step += u64::from(changed);
+        let quantities: Vec<Pieces> = sheet.orders.iter().map(|order| order.quantity).collect();
+        let step = sheet.step_in_force().0;
+        for (k, order) in sheet.orders.iter().enumerate() {
+            let Terms::Stepper { ignored, .. } = order.terms else {
+                continue;
+            };
+            let rival = literal::limits::best_rival(sheet, grid, &quantities, k, ignored);
+            match (order.side, rival) {
+                (Side::Buy, Some(rival)) if rival.0 + step > grid.last => self.off_grid[0] += 1,
+                (Side::Sell, Some(rival)) if rival.0 <= step => self.off_grid[1] += 1,
+                _ => {}
+            }
+        }
+    }
+
     fn print(&self, name: &str) {
         let [one, two, three, more] = self.rounds;
         println!("{name}: {} sheets", self.sheets);
@@ -68,6 +94,15 @@ impl Tally {
             self.outside_band
         );
         println!("  rounds with Steppers: {}", self.with_steppers);
+        println!("  sheets with a step word: {}", self.with_step_word);
+        println!(
+            "  openings that the usual step would change: {}",
+            self.changed_by_step
+        );
+        println!(
+            "  Steppers, buys and sells, whose step leads off the grid: {:?}",
+            self.off_grid
+        );
     }
 }
 
@@ -131,15 +166,34 @@ fn compare(sheet: &Sheet, grid: Grid, curve_prices: &[u32]) -> Result<Opening, S
     Ok(slow)
 }
 
-/// Prices at which the curves of a real grid are compared: near limits and at random.
+/// A step word of 1 says no more than none does.
+fn compare_usual(sheet: &Sheet, grid: Grid) -> Result<(), String> {
+    let said = sheet.with_step(Some(QuotationStep(1)));
+    let (without, with) = (
+        read(&sheet.with_step(None).words(), grid),
+        read(&said.words(), grid),
+    );
+    let opened = |read: Result<Sheet, _>| read.map(|sheet| fast::opening::opening(&sheet, grid));
+    match opened(without) == opened(with) {
+        true => Ok(()),
+        false => Err("a step of 1 with and without its word".to_string()),
+    }
+}
+
+/// Prices at which the curves of a real grid are compared: near limits, a quotation step from them,
+/// and at random.
 fn real_prices(random: &mut Random, sheet: &Sheet, grid: Grid) -> Vec<u32> {
     let mut prices = vec![1, grid.last, sheet.lower.0, sheet.upper.0];
+    let step = sheet.step_in_force().0;
     for order in &sheet.orders {
         let limit = order.words()[0] & 0x00ff_ffff;
-        prices.extend([limit.max(2) - 1, limit.max(1), (limit + 1).min(grid.last)]);
+        let (above, below) = (limit + step, limit.max(step) - step);
+        prices.extend([limit.max(1) - 1, limit, limit + 1]);
+        prices.extend([above, above + 1, below, below.max(1) - 1]);
         prices.push(random.between(1, u64::from(grid.last)) as u32);
     }
-    prices
+    let on_grid = prices.into_iter().map(|price| price.clamp(1, grid.last));
+    on_grid.collect()
 }
 
 /// Compares so many sheets; on a difference prints it and hands back false.
@@ -158,8 +212,10 @@ fn run(random: &mut Random, name: &str, count: u64, real: bool) -> bool {
             true => real_prices(random, &sheet, grid),
             false => (1..=grid.last).collect(),
         };
-        match compare(&sheet, grid, &prices) {
-            Ok(opening) => tally.add(&sheet, &opening),
+        let compared = compare(&sheet, grid, &prices)
+            .and_then(|opening| compare_usual(&sheet, grid).map(|()| opening));
+        match compared {
+            Ok(opening) => tally.add(&sheet, grid, &opening),
             Err(difference) => {
                 let words = hexadecimal(&sheet.words(), " ");
                 println!("difference on a grid of {}: {words}", grid.last);

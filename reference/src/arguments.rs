@@ -81,9 +81,12 @@ pub fn price_for(random: &mut Random, sheet: &Sheet, bad: bool) -> u64 {
     }
     let mut prices = vec![1, last, sheet.lower.0.into(), sheet.upper.0.into()];
     prices.push(random.between(1, last));
+    let step = u64::from(sheet.step_in_force().0);
     for order in &sheet.orders {
         let limit = u64::from(order.words()[0] & 0x00ff_ffff);
         prices.extend([limit, limit + 1, limit.max(1) - 1]);
+        let (above, below) = (limit + step, limit.max(step) - step);
+        prices.extend([above, above + 1, below, below.max(1) - 1]);
     }
     random.pick(&prices).clamp(1, last)
 }

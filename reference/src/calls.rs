@@ -5,12 +5,12 @@ use crate::band::{indicative_price, next_band, widening};
 use crate::fast::opening::{curves, first_round, limit_of_stepper, opening};
 use crate::fees::Tariff;
 use crate::refusal::{Refusal, INPUT};
-use crate::sheet::{read, Grid, Price, HEADING_WORDS, MOST_ORDERS, ORDER_WORDS};
+use crate::sheet::{read, Grid, Layout, Price, MOST_ORDERS};
 use crate::waiting::waiting;
 use std::io::{BufRead, Write};
 
-/// The bytes of a sheet with all 120 orders, 1,460.
-const MOST_BYTES: usize = 4 * (HEADING_WORDS + ORDER_WORDS * MOST_ORDERS);
+/// The bytes of a sheet with a step word and all 120 orders, 1,464.
+const MOST_BYTES: usize = 4 * Layout::Stepped.length(MOST_ORDERS);
 
 const GRID: Grid = Grid::DOCUMENT;
 

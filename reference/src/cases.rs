@@ -1,14 +1,17 @@
-//! The listing, the cases P1–P12, the table of refusals, the fees, and the waiting clock. The cases'
-//! openings and limits in force are worked out in both ways; bands, refusals, fees and the clock
-//! have only one.
+//! The listing, the cases P1–P12, the table of refusals, the quotation step, the fees, and the waiting
+//! clock. The cases' openings and limits in force are worked out in both ways; bands, refusals, fees
+//! and the clock have only one.
 
-use crate::answer::{Opening, Round};
+use crate::answer::{hexadecimal, space_of_opening, space_of_round, Opening, Round};
+use crate::arguments::{order_for, price_for, quick_sheet};
 use crate::calls::{answer_line, opening_program};
 use crate::chains::{chain_sheet, steady_chain};
+use crate::damage::damage;
 use crate::fees::{Tariff, MOST_FEE};
-use crate::lines::{line, Kind};
-use crate::shapes::{mirrored, Sizes};
-use crate::sheet::{Grid, Order, Pieces, Price, Sheet, Side, Terms};
+use crate::lines::{joined, line, Kind};
+use crate::shapes::{mirrored, sheet_by_lot, Sizes, LOTS};
+use crate::sheet::{kind, read, value, Grid, Layout, Order, Pieces, Price, QuotationStep};
+use crate::sheet::{Sheet, Side, Terms};
 use crate::{fast, literal, random::Random};
 use Side::{Buy, Sell};
 
@@ -49,22 +52,39 @@ fn sheet(orders: &[Order]) -> Sheet {
         upper: Price(110),
         last_purchase: Price(100),
         indicative: Price(100),
+        step: None,
         orders: orders.to_vec(),
     }
 }
 
-/// The opening, the same in both ways and on both grids.
+/// The same with a step word.
+fn sheet_by(step: u32, orders: &[Order]) -> Sheet {
+    sheet(orders).with_step(Some(QuotationStep(step)))
+}
+
 fn opening(orders: &[Order]) -> Opening {
-    let sheet = sheet(orders);
-    let opening = fast::opening::opening(&sheet, Grid::DOCUMENT);
-    assert_eq!(opening, fast::opening::opening(&sheet, SMALL));
-    assert_eq!(opening, literal::opening::opening(&sheet, SMALL));
+    opening_of(&sheet(orders))
+}
+
+fn opening_by(step: u32, orders: &[Order]) -> Opening {
+    opening_of(&sheet_by(step, orders))
+}
+
+/// The opening, the same in both ways and on both grids.
+fn opening_of(sheet: &Sheet) -> Opening {
+    assert_eq!(read(&sheet.words(), SMALL).as_ref(), Ok(sheet));
+    let opening = fast::opening::opening(sheet, Grid::DOCUMENT);
+    assert_eq!(opening, fast::opening::opening(sheet, SMALL));
+    assert_eq!(opening, literal::opening::opening(sheet, SMALL));
     opening
 }
 
 /// Situation, auction price, purchase price and total of the first round.
 fn first(opening: &Opening) -> (u32, u32, u32, u64) {
-    let round = &opening.rounds[0];
+    figures(&opening.rounds[0])
+}
+
+fn figures(round: &Round) -> (u32, u32, u32, u64) {
     let purchase = round.purchase_price.map_or(0, |price| price.0);
     (
         round.situation,
@@ -78,12 +98,16 @@ fn fills(opening: &Opening) -> Vec<u64> {
     opening.rounds[0].fills.iter().map(|fill| fill.0).collect()
 }
 
-/// The limit in force of the last order, a Stepper, the same in both ways.
 fn stands(orders: &[Order]) -> u32 {
-    let sheet = sheet(orders);
-    let k = orders.len() - 1;
-    let limit = fast::opening::limit_of_stepper(&sheet, Grid::DOCUMENT, k as u64);
-    assert_eq!(limit, Ok(literal::Book::first(&sheet, SMALL).in_force[k]));
+    stands_in(&sheet(orders), SMALL)
+}
+
+/// The limit in force of the last order, a Stepper, the same in both ways; the literal one tries the
+/// prices of the grid given.
+fn stands_in(sheet: &Sheet, grid: Grid) -> u32 {
+    let k = sheet.orders.len() - 1;
+    let limit = fast::opening::limit_of_stepper(sheet, Grid::DOCUMENT, k as u64);
+    assert_eq!(limit, Ok(literal::Book::first(sheet, grid).in_force[k]));
     limit.unwrap().0
 }
 
@@ -104,7 +128,7 @@ fn p1_listing() {
     );
     let sheet = sheet(&[basic(Buy, 10, 105), basic(Sell, 4, 95)]);
     let slow = literal::opening::opening(&sheet, Grid::DOCUMENT);
-    assert_eq!(crate::answer::hexadecimal(&slow.words(), " "), LISTED);
+    assert_eq!(hexadecimal(&slow.words(), " "), LISTED);
 }
 
 #[test]
@@ -281,34 +305,36 @@ fn headings_accepted() {
     }
 }
 
+/// Headings of prices on the grid for which D < I < H fails.
+const NOT_BETWEEN: [[u32; 4]; 18] = [
+    // I on D, on H, and one step beyond either.
+    [90, 110, 100, 90],
+    [90, 110, 100, 110],
+    [90, 110, 100, 89],
+    [90, 110, 100, 111],
+    // The ends of the grid are prices of it, so that nothing is wrong but where I lies.
+    [1, 1_000_000, 100, 1],
+    [1, 1_000_000, 100, 1_000_000],
+    [2, 1_000_000, 100, 1],
+    [1, 999_999, 100, 1_000_000],
+    // Neighbours have no price between them.
+    [99, 100, 100, 99],
+    [99, 100, 100, 100],
+    // D above H: I between the two, on either, and on each side of both.
+    [110, 90, 100, 100],
+    [110, 90, 100, 110],
+    [110, 90, 100, 90],
+    [110, 90, 100, 111],
+    [110, 90, 100, 89],
+    // D on H: I with them, and on each side.
+    [100, 100, 100, 100],
+    [100, 100, 100, 101],
+    [100, 100, 100, 99],
+];
+
 #[test]
 fn indicative_price_not_between() {
-    let not_between = [
-        // I on D, on H, and one step beyond either.
-        [90, 110, 100, 90],
-        [90, 110, 100, 110],
-        [90, 110, 100, 89],
-        [90, 110, 100, 111],
-        // The ends of the grid are prices of it, so that nothing is wrong but where I lies.
-        [1, 1_000_000, 100, 1],
-        [1, 1_000_000, 100, 1_000_000],
-        [2, 1_000_000, 100, 1],
-        [1, 999_999, 100, 1_000_000],
-        // Neighbours have no price between them.
-        [99, 100, 100, 99],
-        [99, 100, 100, 100],
-        // D above H: I between the two, on either, and on each side of both.
-        [110, 90, 100, 100],
-        [110, 90, 100, 110],
-        [110, 90, 100, 90],
-        [110, 90, 100, 111],
-        [110, 90, 100, 89],
-        // D on H: I with them, and on each side.
-        [100, 100, 100, 100],
-        [100, 100, 100, 101],
-        [100, 100, 100, 99],
-    ];
-    for prices in not_between {
+    for prices in NOT_BETWEEN {
         let head = head(prices);
         refused_by_all(&format!("{head} 50000000"), 15);
         // It comes before all that may be wrong with the count: too many orders, one that is
@@ -327,90 +353,98 @@ fn indicative_price_not_between() {
     }
 }
 
+/// Headings with a price off the grid, D < I < H or not.
+const NOT_ON_GRID: [[u32; 4]; 20] = [
+    // One price alone, which leaves I between the bounds all the same.
+    [0, 110, 100, 100],
+    [90, 1_000_001, 100, 100],
+    [90, 110, 0, 100],
+    [90, 110, 1_000_001, 100],
+    [90, 110, 268_435_455, 100],
+    // One price alone again, which also takes I out of the band; the grid comes first.
+    [1_000_001, 110, 100, 100],
+    [90, 0, 100, 100],
+    [90, 110, 100, 0],
+    [90, 110, 100, 1_000_001],
+    [90, 110, 100, 268_435_455],
+    // Several at once: D < I < H holds in the first as numbers and in no other.
+    [0, 1_000_001, 100, 100],
+    [0, 110, 100, 0],
+    [90, 1_000_001, 100, 1_000_001],
+    [0, 0, 0, 0],
+    // The last purchase price has no part in the order, yet it is looked at before that is:
+    // I on a bound, outside, D above H, all three the same.
+    [90, 110, 0, 90],
+    [90, 110, 1_000_001, 90],
+    [90, 110, 0, 110],
+    [90, 110, 1_000_001, 111],
+    [110, 90, 0, 100],
+    [100, 100, 1_000_001, 100],
+];
+
 #[test]
 fn prices_off_the_grid_before_the_band() {
-    let not_on_grid = [
-        // One price alone, which leaves I between the bounds all the same.
-        [0, 110, 100, 100],
-        [90, 1_000_001, 100, 100],
-        [90, 110, 0, 100],
-        [90, 110, 1_000_001, 100],
-        [90, 110, 268_435_455, 100],
-        // One price alone again, which also takes I out of the band; the grid comes first.
-        [1_000_001, 110, 100, 100],
-        [90, 0, 100, 100],
-        [90, 110, 100, 0],
-        [90, 110, 100, 1_000_001],
-        [90, 110, 100, 268_435_455],
-        // Several at once: D < I < H holds in the first as numbers and in no other.
-        [0, 1_000_001, 100, 100],
-        [0, 110, 100, 0],
-        [90, 1_000_001, 100, 1_000_001],
-        [0, 0, 0, 0],
-        // The last purchase price has no part in the order, yet it is looked at before that is:
-        // I on a bound, outside, D above H, all three the same.
-        [90, 110, 0, 90],
-        [90, 110, 1_000_001, 90],
-        [90, 110, 0, 110],
-        [90, 110, 1_000_001, 111],
-        [110, 90, 0, 100],
-        [100, 100, 1_000_001, 100],
-    ];
-    for prices in not_on_grid {
+    for prices in NOT_ON_GRID {
         let head = head(prices);
         refused_by_all(&format!("{head} 50000000"), 3);
         // Also before the count and after the kinds.
         refused_by_all(&format!("{head} 50000079"), 3);
         refused_by_all(&format!("{head} 50000000 60000000"), 3);
         refused_by_all(&format!("{head} 60000000"), 2);
+        refused_by_all(&format!("{head} 60000000 00000000"), 2);
     }
 }
 
+/// Two orders, the refusal and the order at fault.
+const FAULTY_ORDERS: [(&str, &str); 7] = [
+    (
+        "62000000 80000000 90000000 70000001 80000001 80000000",
+        "6 0",
+    ),
+    (
+        "60000000 80000001 90000000 73000001 80000000 80000000",
+        "5 1",
+    ),
+    (
+        "60000000 80000001 90000000 63000001 80000000 90000001",
+        "6 1",
+    ),
+    (
+        "60000000 80000001 90000000 600f4241 80000000 90000001",
+        "6 1",
+    ),
+    (
+        "60000000 80000001 90000000 610f4240 80000000 90000001",
+        "7 1",
+    ),
+    (
+        "60000000 80000001 90000000 610f4240 800f4240 90000001",
+        "8 1",
+    ),
+    (
+        "60000000 80000001 90000000 620f4240 800f4240 900f4241",
+        "8 1",
+    ),
+];
+
 #[test]
 fn refusals_of_the_orders() {
-    let orders = [
-        (
-            "62000000 80000000 90000000 70000001 80000001 80000000",
-            6,
-            0,
-        ),
-        (
-            "60000000 80000001 90000000 73000001 80000000 80000000",
-            5,
-            1,
-        ),
-        (
-            "60000000 80000001 90000000 63000001 80000000 90000001",
-            6,
-            1,
-        ),
-        (
-            "60000000 80000001 90000000 600f4241 80000000 90000001",
-            6,
-            1,
-        ),
-        (
-            "60000000 80000001 90000000 610f4240 80000000 90000001",
-            7,
-            1,
-        ),
-        (
-            "60000000 80000001 90000000 610f4240 800f4240 90000001",
-            8,
-            1,
-        ),
-        (
-            "60000000 80000001 90000000 620f4240 800f4240 900f4241",
-            8,
-            1,
-        ),
-    ];
-    for (words, number, order) in orders {
-        let refused = format!("refused {number} {order}");
+    for (words, refusal) in FAULTY_ORDERS {
+        let refused = format!("refused {refusal}");
         answered(&[("check", &format!("50000002 {words}"), &refused)]);
+        // A step word in good form moves the orders on and not their numbers.
+        let stepped = format!("50000002 000003e8 {words}");
+        answered(&[("check", &stepped, &refused)]);
     }
-    let accepted = "50000001 620f4240 800f4240 900f4240";
-    answered(&[("check", accepted, "accepted")]);
+    let accepted = "620f4240 800f4240 900f4240";
+    answered(&[
+        ("check", &format!("50000001 {accepted}"), "accepted"),
+        (
+            "check",
+            &format!("50000001 00000001 {accepted}"),
+            "accepted",
+        ),
+    ]);
 }
 
 #[test]
@@ -453,10 +487,44 @@ fn unreadable_lines() {
 
 #[test]
 fn program_input() {
-    assert_eq!(opening_program(&[0x10]), "refused 12 0\n");
-    assert_eq!(opening_program(&[0; 1464]), "refused 12 0\n");
-    assert_eq!(opening_program(&[0; 1460]), "refused 2 0\n");
+    for bytes in [1, 1_461, 1_463, 1_465, 1_468, 1_472, 1_476, 100_000] {
+        let zeros = vec![0; bytes];
+        assert_eq!(opening_program(&zeros), "refused 12 0\n", "{bytes}");
+    }
+    for bytes in [1_456, 1_460, 1_464] {
+        let zeros = vec![0; bytes];
+        assert_eq!(opening_program(&zeros), "refused 2 0\n", "{bytes}");
+    }
     assert_eq!(opening_program(&[]), "refused 1 0\n");
+}
+
+#[test]
+fn longest_program_input() {
+    // 120 buys of one piece at 100, and nobody sells.
+    let orders = " 60000064 80000001 90000000".repeat(120);
+    let fills = "e0000000\n".repeat(120);
+    let opened = format!("a0000002\nb0000064\nc0000000\nd0000000\n{fills}f0000001\n");
+    let plain = format!("{HEAD} 50000078{orders}");
+    let stepped = format!("{HEAD} 50000078 000003e8{orders}");
+    assert_eq!(bytes_of(&plain).len(), 1_460);
+    assert_eq!(bytes_of(&stepped).len(), 1_464);
+    let answers = [
+        (plain.clone(), opened.as_str()),
+        (stepped.clone(), &opened),
+        // A word too many, which without a step word makes the first order's one be judged.
+        (plain + " 00000001", "refused 17 0\n"),
+        (stepped + " 00000001", "refused 12 0\n"),
+        // 121 orders are too long in either layout.
+        (
+            format!("{HEAD} 50000079{orders} 60000064 80000001 90000000"),
+            "refused 12 0\n",
+        ),
+        // Counted as 121 they are too few.
+        (format!("{HEAD} 50000079 00000001{orders}"), "refused 4 0\n"),
+    ];
+    for (words, printed) in answers {
+        assert_eq!(opening_program(&bytes_of(&words)), printed, "{words}");
+    }
 }
 
 #[test]
@@ -475,6 +543,812 @@ fn chains_run_sixty_rounds() {
             assert_eq!(opening.rounds.len(), 60);
         }
     }
+}
+
+/// Rows of a step and of where the last order, a Stepper, stands by it.
+fn stand(orders: &[Order], rows: &[(u32, u32)]) {
+    for (step, price) in rows {
+        let stands = stands_in(&sheet_by(*step, orders), SMALL);
+        assert_eq!(stands, *price, "{step}: {orders:?}");
+    }
+}
+
+#[test]
+fn p9_by_other_steps() {
+    let buying = |ignored| {
+        let stepper = stepper(Buy, 7, 108, ignored);
+        [basic(Buy, 5, 104), basic(Buy, 3, 101), stepper]
+    };
+    // From 101, past 104 on the way, as far as 108.
+    let from_101 = [(1, 102), (2, 103), (3, 104), (4, 105), (6, 107), (7, 108)];
+    let no_further = [(8, 108), (9, 108), (500, 108), (999, 108), (1_000, 108)];
+    stand(&buying(5), &from_101);
+    stand(&buying(7), &from_101);
+    stand(&buying(5), &no_further);
+    let from_104 = [(1, 105), (2, 106), (3, 107), (4, 108), (5, 108)];
+    stand(&buying(4), &from_104);
+    stand(&buying(0), &from_104);
+    stand(&buying(4), &no_further);
+    // All eight pieces are ignored: there is no rival price to step from.
+    stand(&buying(8), &[(1, 90), (2, 90), (11, 90), (1_000, 90)]);
+}
+
+#[test]
+fn p9_by_other_steps_for_sells() {
+    let selling = |ignored| {
+        let stepper = stepper(Sell, 7, 92, ignored);
+        [basic(Sell, 5, 96), basic(Sell, 3, 99), stepper]
+    };
+    let from_99 = [(1, 98), (2, 97), (3, 96), (4, 95), (6, 93), (7, 92)];
+    // To zero it is 99, and 96 from the other rival.
+    let no_further = [(8, 92), (95, 92), (96, 92), (97, 92), (98, 92)];
+    let below_zero = [(99, 92), (100, 92), (500, 92), (999, 92), (1_000, 92)];
+    stand(&selling(5), &from_99);
+    stand(&selling(7), &from_99);
+    stand(&selling(5), &no_further);
+    stand(&selling(5), &below_zero);
+    let from_96 = [(1, 95), (2, 94), (3, 93), (4, 92), (5, 92)];
+    stand(&selling(4), &from_96);
+    stand(&selling(0), &from_96);
+    stand(&selling(4), &no_further);
+    stand(&selling(4), &below_zero);
+    stand(&selling(8), &[(1, 110), (2, 110), (11, 110), (1_000, 110)]);
+}
+
+#[test]
+fn p10_by_every_step() {
+    let alone = [
+        (stepper(Buy, 7, 108, 0), 90),
+        (stepper(Buy, 7, 90, 0), 90),
+        (stepper(Buy, 7, 80, 0), 80),
+        (stepper(Sell, 7, 92, 0), 110),
+        (stepper(Sell, 7, 110, 0), 110),
+        (stepper(Sell, 7, 120, 0), 120),
+    ];
+    for (order, price) in alone {
+        let steps = [1, 2, 3, 10, 18, 19, 20, 999, 1_000];
+        stand(&[order], &steps.map(|step| (step, price)));
+        // Orders of the other side are no rivals.
+        let other = match order.side {
+            Buy => basic(Sell, 9, 100),
+            Sell => basic(Buy, 9, 100),
+        };
+        stand(&[other, order], &steps.map(|step| (step, price)));
+    }
+}
+
+#[test]
+fn steps_and_bounds_for_buys() {
+    // From 70 it is 20 to D, below which the Stepper does not stand, and 38 to its own limit.
+    let below = [basic(Buy, 5, 70), stepper(Buy, 7, 108, 0)];
+    stand(&below, &[(1, 90), (2, 90), (19, 90), (20, 90), (21, 91)]);
+    stand(&below, &[(37, 107), (38, 108), (39, 108), (1_000, 108)]);
+    // Its own limit is below D: D is no reason to go beyond it.
+    let low = [basic(Buy, 5, 70), stepper(Buy, 7, 85, 0)];
+    stand(&low, &[(1, 85), (14, 85), (15, 85), (16, 85), (1_000, 85)]);
+    // H is no bound for a buy.
+    let across = [basic(Buy, 5, 109), stepper(Buy, 7, 125, 0)];
+    stand(&across, &[(1, 110), (2, 111), (7, 116), (16, 125)]);
+    stand(&across, &[(17, 125), (1_000, 125)]);
+    let above = [basic(Buy, 5, 120), stepper(Buy, 7, 125, 0)];
+    stand(&above, &[(1, 121), (3, 123), (5, 125), (6, 125)]);
+    // A rival without limit is entered at H, a Stepper at its entered limit whatever the step.
+    let unlimited = Order {
+        terms: Terms::WithoutLimit { all_or_none: false },
+        ..basic(Buy, 5, 1)
+    };
+    let without = [unlimited, stepper(Buy, 7, 125, 0)];
+    stand(&without, &[(1, 111), (14, 124), (15, 125), (16, 125)]);
+    let steppers = [stepper(Buy, 5, 104, 0), stepper(Buy, 5, 108, 0)];
+    stand(&steppers, &[(1, 105), (2, 106), (4, 108), (5, 108)]);
+    // The rival is beyond the Stepper's own limit.
+    let beyond = [basic(Buy, 5, 108), stepper(Buy, 7, 104, 0)];
+    stand(&beyond, &[(1, 104), (2, 104), (1_000, 104)]);
+}
+
+#[test]
+fn steps_and_bounds_for_sells() {
+    let above = [basic(Sell, 5, 130), stepper(Sell, 7, 92, 0)];
+    stand(&above, &[(1, 110), (2, 110), (19, 110), (20, 110)]);
+    stand(&above, &[(21, 109), (37, 93), (38, 92), (39, 92)]);
+    // One short of zero, zero, one below, far below.
+    stand(&above, &[(129, 92), (130, 92), (131, 92), (1_000, 92)]);
+    let high = [basic(Sell, 5, 130), stepper(Sell, 7, 115, 0)];
+    stand(&high, &[(1, 115), (14, 115), (15, 115), (1_000, 115)]);
+    let across = [basic(Sell, 5, 91), stepper(Sell, 7, 75, 0)];
+    stand(&across, &[(1, 90), (2, 89), (7, 84), (16, 75)]);
+    stand(&across, &[(17, 75), (91, 75), (92, 75), (1_000, 75)]);
+    let below = [basic(Sell, 5, 80), stepper(Sell, 7, 75, 0)];
+    stand(&below, &[(1, 79), (3, 77), (5, 75), (6, 75)]);
+    let unlimited = Order {
+        terms: Terms::WithoutLimit { all_or_none: false },
+        ..basic(Sell, 5, 1)
+    };
+    let without = [unlimited, stepper(Sell, 7, 75, 0)];
+    stand(&without, &[(1, 89), (14, 76), (15, 75), (16, 75)]);
+    let steppers = [stepper(Sell, 5, 96, 0), stepper(Sell, 5, 92, 0)];
+    stand(&steppers, &[(1, 95), (2, 94), (4, 92), (5, 92)]);
+    let beyond = [basic(Sell, 5, 92), stepper(Sell, 7, 96, 0)];
+    stand(&beyond, &[(1, 96), (2, 96), (92, 96), (1_000, 96)]);
+}
+
+/// A sheet with D, H, last purchase price and I as given, by a step.
+fn sheet_at([lower, upper, last, indicative]: [u32; 4], step: u32, orders: &[Order]) -> Sheet {
+    Sheet {
+        lower: Price(lower),
+        upper: Price(upper),
+        last_purchase: Price(last),
+        indicative: Price(indicative),
+        ..sheet_by(step, orders)
+    }
+}
+
+#[test]
+fn largest_steps() {
+    let grid = Grid { last: 10_000 };
+    // A rival and a Stepper with its limit, and where it stands by steps of 999 and 1,000.
+    let rows = [
+        (Buy, 3_000, 4_000, 3_999, 4_000),
+        (Buy, 3_000, 3_999, 3_999, 3_999),
+        (Buy, 3_000, 5_000, 3_999, 4_000),
+        (Buy, 1, 5_000, 1_000, 1_001),
+        (Sell, 7_000, 6_000, 6_001, 6_000),
+        (Sell, 7_000, 6_001, 6_001, 6_001),
+        (Sell, 7_000, 5_000, 6_001, 6_000),
+        (Sell, 10_000, 5_000, 9_000, 9_000),
+        (Sell, 9_999, 5_000, 9_000, 8_999),
+    ];
+    for (side, rival, limit, by_999, by_1_000) in rows {
+        let orders = [basic(side, 5, rival), stepper(side, 5, limit, 0)];
+        let head = [1_000, 9_000, 5_000, 5_000];
+        let stands = |step| stands_in(&sheet_at(head, step, &orders), grid);
+        assert_eq!(
+            (stands(999), stands(1_000)),
+            (by_999, by_1_000),
+            "{rival} {limit}"
+        );
+    }
+}
+
+#[test]
+fn steps_below_zero() {
+    let head = [2, 9, 5, 5];
+    // A rival, the Stepper's limit, the step and where it stands; wrapped around it would be H.
+    let rows = [
+        (3, 1, 1, 2),
+        (3, 1, 2, 1),
+        (3, 1, 3, 1),
+        (3, 1, 4, 1),
+        (3, 1, 1_000, 1),
+        (3, 2, 1, 2),
+        (3, 2, 2, 2),
+        (3, 2, 3, 2),
+        (3, 2, 4, 2),
+        (3, 2, 1_000, 2),
+        (1, 1, 1, 1),
+        (1, 1, 2, 1),
+        (1, 1, 1_000, 1),
+        (8, 1, 1, 7),
+        (8, 1, 6, 2),
+        (8, 1, 7, 1),
+        (8, 1, 8, 1),
+        (8, 1, 9, 1),
+        // Its own limit is H, or beyond.
+        (1, 9, 1, 9),
+        (1, 9, 1_000, 9),
+        (1, 10, 1_000, 10),
+        // A rival so high that H is the bound, or just not.
+        (12, 1, 3, 9),
+        (12, 1, 4, 8),
+        (12, 1, 12, 1),
+        (12, 1, 13, 1),
+    ];
+    for (rival, limit, step, price) in rows {
+        let orders = [basic(Sell, 5, rival), stepper(Sell, 5, limit, 0)];
+        let sheet = sheet_at(head, step, &orders);
+        assert_eq!(stands_in(&sheet, SMALL), price, "{rival} {limit} {step}");
+        let line = joined("stepper", Some(1), &sheet.words());
+        assert_eq!(answer_line(&line), price.to_string(), "{line}");
+    }
+}
+
+#[test]
+fn opening_with_a_step_below_zero() {
+    // Standing at its own limit, the Stepper sells at the price that finds the most pieces.
+    let head = [2, 9, 5, 5];
+    let orders = [basic(Sell, 5, 3), stepper(Sell, 5, 1, 0), basic(Buy, 10, 3)];
+    let opening = opening_of(&sheet_at(head, 1_000, &orders));
+    assert_eq!(
+        (first(&opening), fills(&opening)),
+        ((0, 3, 3, 10), vec![5, 5, 10])
+    );
+}
+
+#[test]
+fn steps_above_the_grid() {
+    let head = [999_990, 1_000_000, 999_995, 999_995];
+    let rows = [
+        (999_998, 1_000_000, 1, 999_999),
+        (999_998, 1_000_000, 2, 1_000_000),
+        (999_998, 1_000_000, 3, 1_000_000),
+        (999_998, 1_000_000, 1_000, 1_000_000),
+        (999_998, 999_999, 2, 999_999),
+        (999_998, 999_999, 1_000, 999_999),
+        (1_000_000, 1_000_000, 1, 1_000_000),
+        (1_000_000, 1_000_000, 1_000, 1_000_000),
+        (998_990, 1_000_000, 1_000, 999_990),
+        (998_991, 1_000_000, 1_000, 999_991),
+    ];
+    for (rival, limit, step, price) in rows {
+        let orders = [basic(Buy, 5, rival), stepper(Buy, 5, limit, 0)];
+        let sheet = sheet_at(head, step, &orders);
+        let stands = stands_in(&sheet, Grid::DOCUMENT);
+        assert_eq!(stands, price, "{rival} {limit} {step}");
+    }
+}
+
+/// The buy at 101 is the Stepper's rival, and the sell finds fewer pieces than the Stepper has.
+fn price_by_step() -> [Order; 3] {
+    let stepper = stepper(Buy, 7, 108, 0);
+    [basic(Buy, 5, 101), stepper, basic(Sell, 5, 95)]
+}
+
+#[test]
+fn auction_price_by_step() {
+    // Demand exceeds supply up to where the Stepper stands, and this is the price; the second round
+    // has no sells and leaves it there.
+    for (step, price) in [(1, 102), (2, 103), (3, 104), (6, 107), (7, 108), (8, 108)] {
+        let opening = opening_by(step, &price_by_step());
+        let figures: Vec<_> = opening.rounds.iter().map(figures).collect();
+        assert_eq!(figures, [(0, price, price, 5), (2, price, 0, 0)], "{step}");
+        assert_eq!((fills(&opening), opening.ending), (vec![0, 5, 5], 0));
+    }
+    let selling = [
+        basic(Sell, 5, 99),
+        stepper(Sell, 7, 92, 0),
+        basic(Buy, 5, 105),
+    ];
+    for (step, price) in [(1, 98), (3, 96), (7, 92), (8, 92), (99, 92), (1_000, 92)] {
+        let opening = opening_by(step, &selling);
+        let figures: Vec<_> = opening.rounds.iter().map(figures).collect();
+        assert_eq!(figures, [(0, price, price, 5), (1, price, 0, 0)], "{step}");
+        assert_eq!((fills(&opening), opening.ending), (vec![0, 5, 5], 0));
+    }
+}
+
+/// The words of these orders.
+const PRICE_BY_STEP: &str =
+    "60000065 80000005 90000000 6200006c 80000007 90000000 7000005f 80000005 90000000";
+
+#[test]
+fn listing_by_step() {
+    // By 3 the Stepper stands at 104.
+    let sheet = format!("50000003 00000003 {PRICE_BY_STEP}");
+    let round = "a0000000 b0000068 c0000068 d0000005 e0000000 e0000005 e0000005";
+    let last = "a0000002 b0000068 c0000000 d0000000 e0000000 e0000000 e0000000 f0000002";
+    let result = format!("{round} {last}");
+    // 5 pieces at 104 are 5,200 hellers.
+    let charged = format!("{result} fees 0 52 52");
+    answered(&[
+        ("check", &sheet, "accepted"),
+        ("stepper 1", &sheet, "104"),
+        ("stepper 0", &sheet, "refused 9 0"),
+        ("stepper 3", &sheet, "refused 9 0"),
+        ("curves 94", &sheet, "12 0 0"),
+        ("curves 101", &sheet, "12 5 5"),
+        ("curves 102", &sheet, "7 5 5"),
+        ("curves 104", &sheet, "7 5 5"),
+        ("curves 105", &sheet, "0 5 0"),
+        ("round 7", &sheet, round),
+        ("round 6", &sheet, "refused 10 0"),
+        ("opening 29", &sheet, &result),
+        ("opening 28", &sheet, "refused 10 0"),
+        ("fees 100 0 99 29 3", &sheet, &charged),
+        ("fees 100 0 99 29 2", &sheet, "refused 10 0"),
+        ("fees 10001 0 99 29 3", &sheet, "refused 16 0"),
+    ]);
+    let printed = opening_program(&bytes_of(&format!("{HEAD} {sheet}")));
+    assert_eq!(printed, result.replace(' ', "\n") + "\n");
+    let words = sheet_by(3, &price_by_step()).words();
+    assert_eq!(format!("{HEAD} {sheet}"), hexadecimal(&words, " "));
+}
+
+#[test]
+fn listing_by_other_steps() {
+    // The words up to the orders, where the Stepper stands, and the curves at 103.
+    for (heading, price, curves) in [
+        ("50000003", "102", "0 5 0"),
+        ("50000003 00000001", "102", "0 5 0"),
+        ("50000003 00000002", "103", "7 5 5"),
+        ("50000003 00000007", "108", "7 5 5"),
+        ("50000003 000003e8", "108", "7 5 5"),
+    ] {
+        let sheet = format!("{heading} {PRICE_BY_STEP}");
+        answered(&[("stepper 1", &sheet, price), ("curves 103", &sheet, curves)]);
+    }
+}
+
+/// The Stepper steps from 101: below the buy at 104, level with it at 3, ahead of it from 4 on.
+fn priority_by_step() -> [Order; 4] {
+    [
+        basic(Buy, 5, 104),
+        basic(Buy, 3, 101),
+        stepper(Buy, 3, 108, 5),
+        basic(Sell, 4, 95),
+    ]
+}
+
+#[test]
+fn fills_by_step() {
+    let orders = priority_by_step();
+    let selling = [
+        basic(Sell, 5, 96),
+        basic(Sell, 3, 99),
+        stepper(Sell, 3, 92, 5),
+        basic(Buy, 4, 105),
+    ];
+    for (step, filled) in [
+        (1, [4, 0, 0, 4]),
+        (2, [4, 0, 0, 4]),
+        (3, [4, 0, 0, 4]),
+        (4, [1, 0, 3, 4]),
+        (7, [1, 0, 3, 4]),
+        (1_000, [1, 0, 3, 4]),
+    ] {
+        let (bought, sold) = (opening_by(step, &orders), opening_by(step, &selling));
+        assert_eq!(
+            (first(&bought), first(&sold)),
+            ((0, 104, 104, 4), (0, 96, 96, 4))
+        );
+        assert_eq!(
+            (fills(&bought), fills(&sold)),
+            (filled.into(), filled.into())
+        );
+    }
+}
+
+#[test]
+fn level_by_step() {
+    // Level limits go by filing order, and all-or-none orders come last.
+    let orders = priority_by_step();
+    let filed_first = [orders[2], orders[0], orders[1], orders[3]];
+    assert_eq!(fills(&opening_by(2, &filed_first)), [0, 4, 0, 4]);
+    assert_eq!(fills(&opening_by(3, &filed_first)), [3, 1, 0, 4]);
+    let mut all_or_none = orders;
+    all_or_none[0] = limited(Buy, 5, 104, true);
+    let below = opening_by(2, &all_or_none);
+    assert_eq!(
+        (first(&below), below.rounds.len(), below.ending),
+        ((0, 104, 0, 0), 1, 1)
+    );
+    let level = opening_by(3, &all_or_none);
+    assert_eq!(
+        (first(&level), level.rounds.len(), level.ending),
+        ((0, 104, 104, 3), 2, 1)
+    );
+    assert_eq!(fills(&level), [0, 0, 3, 3]);
+}
+
+#[test]
+fn waiting_by_step() {
+    // From 109 it takes 6 to meet the sell at 115, which is above the band.
+    let orders = [
+        basic(Buy, 5, 109),
+        stepper(Buy, 7, 125, 0),
+        basic(Sell, 5, 115),
+    ];
+    let selling = [
+        basic(Sell, 5, 91),
+        stepper(Sell, 7, 75, 0),
+        basic(Buy, 5, 85),
+    ];
+    for (step, bought, sold, ending) in [
+        (1, (2, 110, 0, 0), (1, 90, 0, 0), 0),
+        (2, (2, 110, 0, 0), (1, 90, 0, 0), 0),
+        (5, (2, 110, 0, 0), (1, 90, 0, 0), 0),
+        (6, (0, 115, 0, 0), (0, 85, 0, 0), 2),
+        (7, (0, 116, 0, 0), (0, 84, 0, 0), 2),
+        (15, (0, 124, 0, 0), (0, 76, 0, 0), 2),
+        (16, (0, 125, 0, 0), (0, 75, 0, 0), 2),
+        (91, (0, 125, 0, 0), (0, 75, 0, 0), 2),
+        (1_000, (0, 125, 0, 0), (0, 75, 0, 0), 2),
+    ] {
+        for (orders, round) in [(orders, bought), (selling, sold)] {
+            let opening = opening_by(step, &orders);
+            assert_eq!(first(&opening), round, "{step}");
+            assert_eq!((opening.rounds.len(), opening.ending), (1, ending));
+        }
+    }
+}
+
+#[test]
+fn beyond_the_bound_by_step() {
+    // Beyond H all are level, by whatever step: the first is filled.
+    let level = [
+        basic(Buy, 3, 115),
+        stepper(Buy, 3, 120, 0),
+        basic(Sell, 3, 95),
+    ];
+    for step in [1, 2, 5, 6, 1_000] {
+        let opening = opening_by(step, &level);
+        assert_eq!(
+            (first(&opening), fills(&opening)),
+            ((0, 110, 110, 3), vec![3, 0, 3])
+        );
+    }
+}
+
+/// Three pairs of all-or-none orders, buys of 5 at the limits given and sells of 6, and a Stepper of 4
+/// that ignores 5 and can add the sixth piece.
+fn three_pairs(limits: [u32; 3]) -> [Order; 7] {
+    let [one, two, three] = limits.map(|limit| limited(Buy, 5, limit, true));
+    let [first, second, third] = [93, 94, 95].map(|limit| limited(Sell, 6, limit, true));
+    let stepper = stepper(Buy, 4, 110, 5);
+    [one, two, three, stepper, first, second, third]
+}
+
+/// The figures of all rounds. Seen from the other side they are the same about a price of 100; so is
+/// the ending, and the fills are handed over in the same order.
+fn both_sides(sheet: &Sheet) -> (Opening, Vec<(u32, u32, u32, u64)>) {
+    let opening = opening_of(sheet);
+    let turned = opening_of(&mirrored(sheet, Grid { last: 199 }));
+    let rounds: Vec<_> = opening.rounds.iter().map(figures).collect();
+    assert_eq!(turned.rounds.len(), rounds.len());
+    for (round, turned) in opening.rounds.iter().zip(&turned.rounds) {
+        assert_eq!(turned.auction_price.0, 200 - round.auction_price.0);
+        assert_eq!(turned.fills, round.fills);
+    }
+    assert_eq!(turned.ending, opening.ending);
+    (opening, rounds)
+}
+
+#[test]
+fn rounds_by_step() {
+    let (close, apart) = (three_pairs([108, 106, 104]), three_pairs([108, 105, 102]));
+    // The Stepper stands between the first two buys, then between the others, at 90 in the end: at
+    // 107 and 105 where they are 2 apart, at 106 and 103 or at 107 and 104 where they are 3. Until
+    // then demand exceeds supply (19 and 18, 13 and 12) up to the lowest buy; in the end the buy
+    // has 5, the sell 6.
+    for (step, orders, price) in [(1, close, 104), (1, apart, 102), (2, apart, 102)] {
+        let (opening, rounds) = both_sides(&sheet_by(step, &orders));
+        let traded = (0, price, price, 6);
+        assert_eq!(rounds, [traded, traded, (0, 95, 0, 0)], "{step}");
+        assert_eq!(
+            (fills(&opening), opening.ending),
+            (vec![5, 0, 0, 1, 6, 0, 0], 1)
+        );
+    }
+    assert_eq!(opening_by(1, &close), opening(&close));
+    // A hundredth of 5,100, 1,020 and 6,120 hellers: 51, 10.2 and 61.2.
+    let fees = tariff(100, 0, MOST_FEE).fees(&opening_by(2, &apart));
+    assert_eq!(fees, [51, 51, 0, 20, 61, 61, 0]);
+    // Level with the first buy, which as an all-or-none order ranks behind, or ahead of it: 4, 9, 14
+    // or 19 pieces and no part of 6, 12 or 18.
+    for (step, orders, price) in [
+        (2, close, 104),
+        (3, close, 104),
+        (3, apart, 102),
+        (4, apart, 102),
+        (1_000, apart, 102),
+    ] {
+        let (opening, rounds) = both_sides(&sheet_by(step, &orders));
+        assert_eq!(
+            (rounds, opening.ending),
+            (vec![(0, price, 0, 0)], 1),
+            "{step}"
+        );
+    }
+}
+
+#[test]
+fn step_words() {
+    let order = "60000000 80000001 90000000";
+    for step in [1, 2, 3, 10, 255, 256, 512, 999, 1_000] {
+        answered(&[
+            ("check", &format!("50000000 {step:08x}"), "accepted"),
+            ("check", &format!("50000001 {step:08x} {order}"), "accepted"),
+        ]);
+    }
+    // None, one beyond, and numbers that would do if their upper bits were not looked at.
+    let mut wrong: Vec<u32> = [0, 1_001, 1_002, 1_023, 1_024, 1_025, 1_256].to_vec();
+    wrong.extend([65_536, 65_537, 1_000_000, 1 << 20 | 1, 1 << 24 | 1]);
+    wrong.extend([1 << 27, 1 << 27 | 1, 0x0fff_ffff]);
+    // Each other kind, with values that would be right and with one that is not either.
+    for kind in 1..16 {
+        wrong.extend([1, 100, 1_000, 0].map(|value| kind << 28 | value));
+    }
+    for word in wrong {
+        refused_by_all(&format!("{HEAD} 50000000 {word:08x}"), 17);
+        refused_by_all(&format!("{HEAD} 50000001 {word:08x} {order}"), 17);
+        // Before the orders and all that may be wrong with them.
+        let faulty = "50000000 80000000 90000001";
+        refused_by_all(&format!("{HEAD} 50000001 {word:08x} {faulty}"), 17);
+        // It is not judged where the length is no such sheet's.
+        refused_by_all(&format!("{HEAD} 50000001 {word:08x}"), 4);
+        refused_by_all(&format!("{HEAD} 50000000 {word:08x} {word:08x}"), 4);
+        refused_by_all(&format!("{HEAD} 50000000 {word:08x} {order}"), 4);
+        refused_by_all(&format!("{HEAD} 50000001 {word:08x} {order} {order}"), 4);
+        refused_by_all(&format!("{HEAD} 5fffffff {word:08x}"), 4);
+        // After the kinds.
+        refused_by_all(&format!("0{} 50000000 {word:08x}", &HEAD[1..]), 2);
+        refused_by_all(&format!("{HEAD} 00000000 {word:08x}"), 2);
+    }
+}
+
+/// Rows of what follows `HEAD`, in which `order` is for the words of one in good form, and of the
+/// check's refusal, 0 for none.
+fn checked(rows: &[(&str, u32)]) {
+    for (words, number) in rows {
+        let words = words.replace("order", "60000064 80000001 90000000");
+        let answer = match number {
+            0 => "accepted".to_string(),
+            _ => format!("refused {number} 0"),
+        };
+        answered(&[("check", &words, &answer)]);
+    }
+}
+
+#[test]
+fn words_too_many_or_missing() {
+    checked(&[
+        // One behind the orders: the sixth word is then an order's first.
+        ("50000001 order 00000001", 17),
+        ("50000001 order 90000000", 17),
+        ("50000002 order order 00000001", 17),
+        // One before them, right or wrong.
+        ("50000001 000003e8 order", 0),
+        ("50000001 000003e9 order", 17),
+        ("50000001 60000000 order", 17),
+        // Without orders there is nothing behind which it could stand.
+        ("50000000 00000001", 0),
+        ("50000000 60000000", 17),
+        // Two of them, or a word too many beside one.
+        ("50000000 00000001 00000001", 4),
+        ("50000001 00000001 00000001 order", 4),
+        ("50000001 00000001 order 90000000", 4),
+        ("50000001 00000000 order 90000000", 4),
+        // The last word dropped: a plain sheet by its length, whose first order begins with the step.
+        ("50000001 00000001 60000000 80000001", 5),
+        ("50000001 00000000 60000000 80000001", 5),
+        // And two words dropped.
+        ("50000001 00000001 60000000", 4),
+        ("50000001 00000000 60000000", 4),
+        // The step dropped: a plain sheet.
+        ("50000001 order", 0),
+        // One order more or less than counted.
+        ("50000000 00000001 order", 4),
+        ("50000002 00000001 order", 4),
+        ("50000000 00000000 order", 4),
+        ("50000002 00000000 order", 4),
+    ]);
+}
+
+#[test]
+fn step_words_of_too_many_orders() {
+    for n in [121, 122, 1_000] {
+        let count = format!("5{n:07x}");
+        let orders = vec!["order"; n].join(" ");
+        // Two words of the last order, and one.
+        let (two, one) = ("60000064 80000001", "60000064");
+        let fewer = vec!["order"; n - 1].join(" ");
+        checked(&[
+            // As long as a sheet with a step word: this is judged first.
+            (&format!("{count} 00000000 {orders}"), 17),
+            (&format!("{count} 000003e9 {orders}"), 17),
+            (&format!("{count} 10000001 {orders}"), 17),
+            (&format!("{count} {orders} 00000001"), 17),
+            (&format!("{count} 00000001 {orders}"), 4),
+            (&format!("{count} 000003e8 {orders}"), 4),
+            // As long as one without, or as none.
+            (&format!("{count} {orders}"), 4),
+            (&format!("{count} 00000000 {fewer} {two}"), 4),
+            (&format!("{count} 00000000 {fewer} {one}"), 4),
+            (&format!("{count} 00000000 {orders} 00000000"), 4),
+        ]);
+    }
+    let orders = vec!["order"; 120].join(" ");
+    checked(&[
+        // 120 are not too many.
+        (&format!("50000078 {orders}"), 0),
+        (&format!("50000078 00000001 {orders}"), 0),
+        (&format!("50000078 00000000 {orders}"), 17),
+        (&format!("50000078 {orders} 00000001"), 17),
+    ]);
+}
+
+#[test]
+fn step_words_after_prices_and_band() {
+    let orders = " 60000064 80000001 90000000".repeat(121);
+    let between = NOT_BETWEEN.map(|prices| (prices, 15));
+    let on_grid = NOT_ON_GRID.map(|prices| (prices, 3));
+    for (prices, number) in between.into_iter().chain(on_grid) {
+        let head = head(prices);
+        for step in ["00000000", "000003e9", "10000001", "00000001", "000003e8"] {
+            refused_by_all(&format!("{head} 50000000 {step}"), number);
+            refused_by_all(&format!("{head} 50000001 {step}"), number);
+            // Too many orders for the program, not for the calls.
+            let line = format!("opening 0 {head} 50000079 {step}{orders}");
+            assert_eq!(answer_line(&line), format!("refused {number} 0"));
+        }
+    }
+}
+
+#[test]
+fn usual_step_said_or_not() {
+    let mut random = Random::new(7);
+    for _ in 0..150 {
+        let sheet = quick_sheet(&mut random).with_step(None);
+        let said = sheet.with_step(Some(QuotationStep(1)));
+        let n = sheet.orders.len() as u64;
+        let (round, opening) = (space_of_round(n as usize), space_of_opening(n as usize));
+        let order = order_for(&mut random, &sheet, false);
+        let price = price_for(&mut random, &sheet, false);
+        for call in [
+            "check".to_string(),
+            format!("stepper {order}"),
+            format!("stepper {n}"),
+            format!("curves {price}"),
+            "curves 0".to_string(),
+            format!("round {round}"),
+            format!("round {}", round - 1),
+            format!("opening {opening}"),
+            format!("opening {}", opening - 1),
+            format!("fees 35 1 1000000 {opening} {n}"),
+            format!("fees 35 1 0 {opening} {n}"),
+        ] {
+            let [one, other] = [&sheet, &said].map(|s| joined(&call, None, &s.words()));
+            assert_eq!(one.len() + 9, other.len());
+            assert_eq!(answer_line(&one), answer_line(&other), "{one}");
+        }
+        let [one, other] = [sheet, said].map(|s| bytes_of(&hexadecimal(&s.words(), " ")));
+        assert_eq!(opening_program(&one), opening_program(&other));
+    }
+}
+
+#[test]
+fn steppers_mirrored() {
+    let mut random = Random::new(7);
+    let mut moved = 0;
+    for _ in 0..2_000 {
+        let sizes = Sizes {
+            grid: Grid {
+                last: random.between(8, 40) as u32,
+            },
+            orders: 4,
+            pieces: 5,
+        };
+        let lot = random.pick(&[2, 11, 12, 15]);
+        let sheet = sheet_by_lot(&mut random, sizes, lot);
+        let turned = mirrored(&sheet, sizes.grid);
+        let stand = |sheet: &Sheet| literal::Book::first(sheet, sizes.grid).in_force;
+        let turn = |price: Price| Price(sizes.grid.last + 1 - price.0);
+        let back: Vec<Price> = stand(&turned).into_iter().map(turn).collect();
+        assert_eq!(stand(&sheet), back, "{sheet:?}");
+        moved += u32::from(stand(&sheet) != stand(&sheet.with_step(None)));
+    }
+    assert!(moved > 200, "{moved}");
+}
+
+#[test]
+fn all_shapes_have_step_words() {
+    let mut random = Random::new(7);
+    let sizes = Sizes {
+        grid: Grid::DOCUMENT,
+        orders: 5,
+        pieces: 5,
+    };
+    let mut missing = vec![1, 2, 3, 999, 1_000];
+    let mut all = 0;
+    for lot in 0..LOTS {
+        let sheets = (0..60).map(|_| sheet_by_lot(&mut random, sizes, lot));
+        let steps: Vec<u32> = sheets
+            .filter_map(|sheet| sheet.step)
+            .map(|step| step.0)
+            .collect();
+        assert!(steps.len() >= 18, "{lot}: {}", steps.len());
+        assert!(steps.iter().all(|step| (1..=1_000).contains(step)));
+        missing.retain(|step| !steps.contains(step));
+        all += steps.len() as u64;
+    }
+    assert!(missing.is_empty(), "{missing:?}");
+    assert!((30 * LOTS..=40 * LOTS).contains(&all), "{all}");
+    let chains = (0..60).map(|_| steady_chain(&mut random, 30));
+    let stepped = chains.filter(|sheet| sheet.step.is_some()).count();
+    assert!((18..=42).contains(&stepped), "{stepped}");
+}
+
+#[test]
+fn random_lines_have_step_words() {
+    let mut random = Random::new(7);
+    let kinds = [
+        (Kind::Check, 1),
+        (Kind::Stepper, 2),
+        (Kind::Curves, 2),
+        (Kind::Round, 2),
+        (Kind::Opening, 2),
+        (Kind::Fees, 6),
+        (Kind::Small, 2),
+    ];
+    for (kind, before) in kinds {
+        let (mut plain, mut stepped) = (0, 0);
+        for _ in 0..120 {
+            let line = line(&mut random, kind);
+            if answer_line(&line).starts_with("refused") {
+                continue;
+            }
+            match (line.split(' ').count() - before) % 3 {
+                2 => plain += 1,
+                0 => stepped += 1,
+                _ => panic!("no such length: {line}"),
+            }
+        }
+        assert!(plain >= 25 && stepped >= 25, "{plain} {stepped}");
+    }
+}
+
+/// What is wrong, or just not wrong, with a step word among the words of a sheet; the layout is that
+/// of their length.
+fn step_faults(words: &[u32]) -> Vec<&'static str> {
+    let [_, _, _, _, count, sixth, ..] = *words else {
+        return Vec::new();
+    };
+    let count = value(count) as usize;
+    let (few, many) = ((1..=120).contains(&count), count > 120);
+    let right = (1..=1_000).contains(&sixth);
+    let order_word = [6, 7].contains(&kind(sixth));
+    let faults = match Layout::of_length(words.len(), count) {
+        Some(Layout::Stepped) => vec![
+            ("zero", sixth == 0),
+            ("1,001", sixth == 1_001),
+            ("large", kind(sixth) == 0 && sixth > 60_000),
+            (
+                "kind",
+                kind(sixth) > 0 && (1..=1_000).contains(&value(sixth)),
+            ),
+            ("order word", few && order_word),
+            ("right", right && !many),
+            ("right, too many orders", right && many),
+            ("wrong, too many orders", !right && many),
+            ("order word, too many orders", order_word && many),
+        ],
+        Some(Layout::Plain) => vec![
+            ("plain, too many orders", many && order_word),
+            ("step left", right && few),
+            ("step left, too many orders", right && many),
+        ],
+        None => vec![
+            ("length, wrong word", !right),
+            ("length, right word", right),
+        ],
+    };
+    let found = faults.into_iter().filter(|(_, so)| *so);
+    found.map(|(name, _)| name).collect()
+}
+
+#[test]
+fn damage_reaches_step_words() {
+    let mut random = Random::new(7);
+    let mut seen = std::collections::BTreeMap::new();
+    let sizes = Sizes {
+        grid: Grid::DOCUMENT,
+        orders: 3,
+        pieces: 5,
+    };
+    let mut refusals = std::collections::BTreeSet::new();
+    for _ in 0..20_000 {
+        let lot = random.pick(&[0, 15]);
+        let mut words = sheet_by_lot(&mut random, sizes, lot).words();
+        damage(&mut random, &mut words);
+        for fault in step_faults(&words) {
+            *seen.entry(fault).or_insert(0) += 1;
+        }
+        if let Err(refusal) = read(&words, Grid::DOCUMENT) {
+            refusals.insert(refusal.number);
+        }
+    }
+    assert_eq!(seen.len(), 14, "{seen:?}");
+    assert!(seen.values().all(|count| *count >= 20), "{seen:?}");
+    assert!(refusals.into_iter().eq([1, 2, 3, 4, 5, 6, 7, 8, 15, 17]));
 }
 
 fn tariff(rate: u64, least: u64, greatest: u64) -> Tariff {
@@ -636,7 +1510,7 @@ fn fees_beyond_32_bits() {
 #[test]
 fn steady_chains_charge_in_all_rounds() {
     let mut random = Random::new(7);
-    for orders in [119, 120] {
+    for orders in [119, 120].repeat(8) {
         let sheet = steady_chain(&mut random, orders);
         for sheet in [mirrored(&sheet, Grid::DOCUMENT), sheet] {
             let stepper = sheet.orders.iter().position(Order::is_stepper).unwrap();
@@ -803,6 +1677,7 @@ fn refusals_of_fee_spaces() {
     let sheets = [
         ("", "refused 1 0"),
         ("60000001", "refused 2 0"),
+        ("50000000 00000000", "refused 17 0"),
         ("50000079", "refused 4 0"),
         ("50000001 50000001 80000001 90000000", "refused 5 0"),
         (
@@ -851,7 +1726,7 @@ fn fee_lines() {
 #[test]
 fn random_fees_reach_all() {
     let mut random = Random::new(7);
-    let mut missing: Vec<String> = [1, 2, 3, 4, 5, 6, 7, 8, 10, 15, 16]
+    let mut missing: Vec<String> = [1, 2, 3, 4, 5, 6, 7, 8, 10, 15, 16, 17]
         .map(|number| format!("refused {number} "))
         .to_vec();
     let mut most = 0;

@@ -3,7 +3,10 @@
 use crate::fast::opening::opening;
 use crate::random::Random;
 use crate::shapes::{mixed_sheet, price, random_mix, random_order, Mix, Sizes};
-use crate::sheet::{Order, Pieces, Sheet, Side, Terms, LAST_PRICE, MOST_PIECES};
+use crate::sheet::{
+    Grid, Order, Pieces, QuotationStep, Sheet, Side, Terms, LAST_PRICE, MOST_PIECES,
+};
+use crate::steps::{chain_step, random_step};
 
 /// A chain of all-or-none pairs, one of which trades in each round. The first buy and the
 /// first sell are equal; between the first and the second buy stands a Stepper too small
@@ -12,9 +15,10 @@ use crate::sheet::{Order, Pieces, Sheet, Side, Terms, LAST_PRICE, MOST_PIECES};
 /// pair trades.
 pub fn chain_sheet(random: &mut Random, sizes: Sizes) -> Sheet {
     let last = u64::from(sizes.grid.last);
-    let gap = random.pick(&[2, 2, 3]);
+    let wanted = (sizes.orders.max(1) - 1).div_euclid(2);
+    let (step, gap) = chain_gap(random, last, wanted);
     let room = (last - 3) / (gap + 1);
-    let pairs = (sizes.orders.max(1) - 1).div_euclid(2).min(room);
+    let pairs = wanted.min(room);
     let least = random.between(2, sizes.pieces.clamp(2, 500_000));
     let most = (2 * least - 1).min(sizes.pieces.max(2));
     let sizes_of_pairs: Vec<u64> = (0..pairs).map(|_| random.between(least, most)).collect();
@@ -40,8 +44,19 @@ pub fn chain_sheet(random: &mut Random, sizes: Sizes) -> Sheet {
     let place = random.between(0, buys.len() as u64) as usize;
     buys.insert(place, stepper);
     let mut sheet = chain_heading(random, last, meeting, highest);
+    sheet.step = step;
     sheet.orders = merged(random, buys, sells);
     sheet
+}
+
+/// The quotation step of a chain, and how far its buys stand apart: by more than the step, so that
+/// the Stepper comes to stand between two of them. It is one with which as many pairs as wanted
+/// have room, if there is such a step.
+fn chain_gap(random: &mut Random, last: u64, pairs: u64) -> (Option<QuotationStep>, u64) {
+    let widest = (last - 3) / pairs.max(1);
+    let step = chain_step(random, widest.max(4) - 3);
+    let distance = u64::from(step.unwrap_or(QuotationStep::USUAL).0);
+    (step, distance + random.pick(&[1, 1, 2]))
 }
 
 /// A chain whose Stepper trades in all rounds but the last, each time a few pieces: every sell has
@@ -56,13 +71,16 @@ pub fn steady_chain(random: &mut Random, orders: u64) -> Sheet {
     let least = random.between(stepper + 1, 400_000);
     let most = random.between(least, 2 * least - 1);
     let last = u64::from(LAST_PRICE);
-    let low = random.between(1, last - 3 * pairs - 3);
-    let meeting = random.pick(&[low, last - 3 * pairs - 3]) + pairs;
-    let mut sheet = chain_heading(random, last, meeting, meeting + 2 * pairs);
+    let (step, gap) = chain_gap(random, last, pairs);
+    let highest_low = last - (gap + 1) * pairs - 3;
+    let low = random.between(1, highest_low);
+    let meeting = random.pick(&[low, highest_low]) + pairs;
+    let mut sheet = chain_heading(random, last, meeting, meeting + gap * pairs);
+    sheet.step = step;
     let (mut buys, mut sells) = (Vec::new(), Vec::new());
     for (extra, place) in extras.into_iter().zip(0..) {
         let pieces = random.between(least, most);
-        let buy_limit = meeting + 2 * (pairs - place);
+        let buy_limit = meeting + gap * (pairs - place);
         buys.push(all_or_none(Side::Buy, buy_limit, pieces));
         let sell_limit = meeting - pairs + place;
         sells.push(all_or_none(Side::Sell, sell_limit, pieces + extra));
@@ -99,6 +117,7 @@ fn chain_heading(random: &mut Random, last: u64, meeting: u64, highest: u64) -> 
         upper: price(upper),
         last_purchase: price(random.between(lower, upper)),
         indicative: price(random.between(lower + 1, upper - 1)),
+        step: None,
         orders: Vec::new(),
     }
 }
@@ -117,11 +136,11 @@ fn merged(random: &mut Random, buys: Vec<Order>, sells: Vec<Order>) -> Vec<Order
     merged
 }
 
-/// A chain with random orders in one or two places.
+/// A chain with random orders in one or two places, or with another step, or both.
 pub fn disturbed_chain(random: &mut Random, sizes: Sizes) -> Sheet {
     let mut sheet = chain_sheet(random, sizes);
     let mix = random_mix(random, sizes, &sheet);
-    disturb(random, &mix, &mut sheet);
+    disturb(random, &mix, sizes.grid, &mut sheet);
     sheet
 }
 
@@ -134,7 +153,7 @@ pub fn climbed_sheet(random: &mut Random, sizes: Sizes) -> Sheet {
     let mut most = opening(&sheet, sizes.grid).rounds.len();
     for _ in 0..steps {
         let mut changed = sheet.clone();
-        disturb(random, &mix, &mut changed);
+        disturb(random, &mix, sizes.grid, &mut changed);
         let rounds = opening(&changed, sizes.grid).rounds.len();
         if rounds >= most {
             (sheet, most) = (changed, rounds);
@@ -162,13 +181,19 @@ fn close_mix(random: &mut Random, sizes: Sizes, sheet: &Sheet) -> Mix {
     }
 }
 
-/// Puts random orders in the place of one or two of a sheet's own.
-fn disturb(random: &mut Random, mix: &Mix, sheet: &mut Sheet) {
-    for _ in 0..random.between(1, 2) {
+/// Puts random orders in the place of one or two of a sheet's own, and at times another step word,
+/// or none, in the place of what it has; then the orders may stay.
+fn disturb(random: &mut Random, mix: &Mix, grid: Grid, sheet: &mut Sheet) {
+    let other_step = random.one_in(6);
+    let least = if other_step { 0 } else { 1 };
+    for _ in 0..random.between(least, 2) {
         if sheet.orders.is_empty() {
-            return;
+            break;
         }
         let place = random.below(sheet.orders.len() as u64) as usize;
         sheet.orders[place] = random_order(random, mix);
+    }
+    if other_step {
+        sheet.step = random_step(random, sheet, grid);
     }
 }

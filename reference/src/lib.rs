@@ -19,4 +19,5 @@ pub mod random;
 pub mod refusal;
 pub mod shapes;
 pub mod sheet;
+pub mod steps;
 pub mod waiting;

@@ -1,5 +1,5 @@
 //! The refusals by number (01 'Where a refusal arises'; 02 (1) for 13 and 14, 02 (2) for 15 and for what 3 means now, 02 (3)
-//! for 16).
+//! for 16, 02 (4) for 17).
 
 /// `place` says where the fault lies, counted from 0: at which order in refusals 5–8, at which word of its list in all that
 /// the waiting clock refuses word by word (11, 13, 14). It is 0 in all others.
@@ -11,11 +11,11 @@ pub struct Refusal {
 
 /// Too short for a heading.
 pub const TOO_SHORT: Refusal = Refusal::new(1);
-/// A heading word of a wrong kind.
+/// A wrong kind among the five words that every heading has.
 pub const HEADING_KIND: Refusal = Refusal::new(2);
 /// A heading price off the grid, be it D, H, the last purchase price or I.
 pub const HEADING_PRICE: Refusal = Refusal::new(3);
-/// More than 120 orders, or not as many words as the count of orders asks for.
+/// More than 120 orders, or not as many words as the count of orders asks for, be it with a step word or without.
 pub const LENGTH: Refusal = Refusal::new(4);
 /// A number of no order or of one that is no Stepper, a price off the grid, a D at or above H,
 /// a code or side other than 0 and 1.
@@ -30,6 +30,8 @@ pub const INPUT: Refusal = Refusal::new(12);
 pub const HEADING_BAND: Refusal = Refusal::new(15);
 /// A tariff with a figure out of its range, or with its least fee above the greatest.
 pub const TARIFF: Refusal = Refusal::new(16);
+/// A sixth word of a wrong kind or value in a sheet as long as one with a step word.
+pub const HEADING_STEP: Refusal = Refusal::new(17);
 
 /// An order word of a wrong kind.
 pub const ORDER_KIND: u32 = 5;

@@ -4,6 +4,7 @@ use crate::chains::{chain_sheet, climbed_sheet, disturbed_chain};
 use crate::fast::opening::first_round;
 use crate::random::Random;
 use crate::sheet::{Grid, Order, Pieces, Price, Sheet, Side, Terms, MOST_PIECES};
+use crate::steps::{random_step, some_step};
 
 /// What a random sheet keeps within.
 #[derive(Clone, Copy)]
@@ -34,7 +35,7 @@ pub struct Mix {
 }
 
 /// How many lots there are to draw a shape by, and those whose sheets are searched for by many openings.
-pub const LOTS: u64 = 16;
+pub const LOTS: u64 = 20;
 pub const SLOW_LOTS: [u64; 2] = [3, 4];
 
 /// A sheet of a shape drawn by lot.
@@ -49,6 +50,7 @@ pub fn sheet_by_lot(random: &mut Random, sizes: Sizes, lot: u64) -> Sheet {
         2 => disturbed_chain(random, sizes),
         3 | 4 => climbed_sheet(random, sizes),
         5..=10 => trading_sheet(random, sizes),
+        11..=14 => stepped_sheet(random, sizes),
         _ => mixed_sheet(random, sizes),
     };
     if random.one_in(2) {
@@ -57,11 +59,12 @@ pub fn sheet_by_lot(random: &mut Random, sizes: Sizes, lot: u64) -> Sheet {
     sheet
 }
 
-/// D, I and H: narrow or wide, at times at an end of the grid.
+/// D, I and H: narrow or wide, some as wide as two of the largest quotation steps, at times at an
+/// end of the grid.
 fn random_band(random: &mut Random, grid: Grid) -> (u64, u64, u64) {
     let last = u64::from(grid.last);
     let widest = last - 1;
-    let most = random.pick(&[2, 4, 20, last / 4, last / 2, widest]);
+    let most = random.pick(&[2, 4, 20, 2_000, last / 4, last / 2, widest]);
     let width = random.between(2, most.clamp(2, widest));
     let lower = match random.below(6) {
         0 => 1,
@@ -72,8 +75,8 @@ fn random_band(random: &mut Random, grid: Grid) -> (u64, u64, u64) {
     (lower, random.between(lower + 1, upper - 1), upper)
 }
 
-/// A heading with no orders yet. The last purchase price lies anywhere, most often in or
-/// near the band.
+/// A heading with no orders yet, and with no step word, which goes by the orders. The last purchase
+/// price lies anywhere, most often in or near the band.
 fn random_heading(random: &mut Random, grid: Grid) -> Sheet {
     let last = u64::from(grid.last);
     let (lower, indicative, upper) = random_band(random, grid);
@@ -88,6 +91,7 @@ fn random_heading(random: &mut Random, grid: Grid) -> Sheet {
         upper: price(upper),
         last_purchase: price(last_purchase),
         indicative: price(indicative),
+        step: None,
         orders: Vec::new(),
     }
 }
@@ -156,6 +160,7 @@ pub fn mixed_sheet(random: &mut Random, sizes: Sizes) -> Sheet {
         let order = random_order(random, &mix);
         sheet.orders.push(order);
     }
+    sheet.step = random_step(random, &sheet, sizes.grid);
     sheet
 }
 
@@ -168,6 +173,47 @@ fn trading_sheet(random: &mut Random, sizes: Sizes) -> Sheet {
         }
         sheet = mixed_sheet(random, sizes);
     }
+    sheet
+}
+
+/// A sheet with a step word whose first round would not be the same by the usual step, if a few
+/// draws come upon one.
+fn stepped_sheet(random: &mut Random, sizes: Sizes) -> Sheet {
+    let first = |sheet: &Sheet| first_round(sheet, sizes.grid);
+    let mut sheet = roomy_sheet(random, sizes);
+    for _ in 0..6 {
+        if first(&sheet) != first(&sheet.with_step(None)) {
+            break;
+        }
+        sheet = roomy_sheet(random, sizes);
+    }
+    sheet
+}
+
+/// Orders of both sides with many Steppers, of which most may go further than the others of their side
+/// do.
+fn roomy_sheet(random: &mut Random, sizes: Sizes) -> Sheet {
+    let mut sheet = random_heading(random, sizes.grid);
+    let mut mix = random_mix(random, sizes, &sheet);
+    mix.stepper_share = random.pick(&[2, 3, 5]);
+    mix.buy_share = random.pick(&[3, 4, 5]);
+    // The rivals are the foremost orders, or those in the middle, about which the price is decided.
+    let whole = mix.pieces * sizes.orders;
+    let ignored = random.pick(&[0, mix.pieces, 2 * mix.pieces, whole / 8, whole / 4]);
+    mix.ignored = ignored.min(u64::from(MOST_PIECES));
+    for _ in 0..sizes.orders {
+        let mut order = random_order(random, &mix);
+        if let Terms::Stepper { limit, .. } = &mut order.terms {
+            let (own, last) = (u64::from(limit.0), u64::from(sizes.grid.last));
+            let room = random.pick(&[0, 3, 20, 1_000]);
+            *limit = price(match order.side {
+                Side::Buy => random.between(own, (mix.buys.1 + room).min(last)),
+                Side::Sell => random.between(mix.sells.0.max(room + 1) - room, own),
+            });
+        }
+        sheet.orders.push(order);
+    }
+    sheet.step = Some(some_step(random, &sheet, sizes.grid));
     sheet
 }
 
@@ -194,7 +240,8 @@ pub fn random_order(random: &mut Random, mix: &Mix) -> Order {
     }
 }
 
-/// The sheet seen from the other side: buys become sells and prices run downwards.
+/// The sheet seen from the other side: buys become sells and prices run downwards. Distances stay,
+/// and with them the quotation step.
 pub fn mirrored(sheet: &Sheet, grid: Grid) -> Sheet {
     let turn = |price: Price| Price(grid.last + 1 - price.0);
     let turn_terms = |terms: Terms| match terms {
@@ -221,6 +268,7 @@ pub fn mirrored(sheet: &Sheet, grid: Grid) -> Sheet {
         upper: turn(sheet.lower),
         last_purchase: turn(sheet.last_purchase),
         indicative: turn(sheet.indicative),
+        step: sheet.step,
         orders: sheet.orders.iter().map(turn_order).collect(),
     }
 }

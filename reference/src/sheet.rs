@@ -7,7 +7,11 @@ use std::iter::Sum;
 pub const LAST_PRICE: u32 = 1_000_000;
 pub const MOST_ORDERS: usize = 120;
 pub const MOST_PIECES: u32 = 1_000_000;
+/// The largest quotation step; the smallest is 1.
+pub const MOST_STEP: u32 = 1_000;
+/// The words that every heading has, up to the count of orders; a step word comes after them.
 pub const HEADING_WORDS: usize = 5;
+pub const STEP_PLACE: usize = HEADING_WORDS;
 pub const ORDER_WORDS: usize = 3;
 
 /// A price, in steps of ten hellers.
@@ -21,6 +25,64 @@ pub struct Pieces(pub u64);
 impl Sum for Pieces {
     fn sum<I: Iterator<Item = Pieces>>(parts: I) -> Pieces {
         Pieces(parts.map(|part| part.0).sum())
+    }
+}
+
+/// The quotation step, which is a distance and no price: how many price steps a Stepper stands
+/// from its best rival price.
+#[derive(Clone, Copy, Debug, PartialEq, Eq)]
+pub struct QuotationStep(pub u32);
+
+impl QuotationStep {
+    /// The one in force where a sheet has no step word.
+    pub const USUAL: QuotationStep = QuotationStep(1);
+
+    /// Its word is of kind 0; none if kind or value is wrong.
+    fn read(word: u32) -> Option<QuotationStep> {
+        let allowed = kind(word) == 0 && (1..=MOST_STEP).contains(&value(word));
+        allowed.then_some(QuotationStep(value(word)))
+    }
+}
+
+/// How the words of a sheet are laid out. Where its orders begin and how many words each has is
+/// told here alone.
+#[derive(Clone, Copy, Debug, PartialEq, Eq)]
+pub enum Layout {
+    Plain,
+    /// With a step word behind the count.
+    Stepped,
+}
+
+impl Layout {
+    const ALL: [Layout; 2] = [Layout::Plain, Layout::Stepped];
+
+    pub const fn has_step(self) -> bool {
+        matches!(self, Layout::Stepped)
+    }
+
+    pub const fn orders_begin(self) -> usize {
+        match self {
+            Layout::Plain => HEADING_WORDS,
+            Layout::Stepped => STEP_PLACE + 1,
+        }
+    }
+
+    pub const fn order_words(self) -> usize {
+        match self {
+            Layout::Plain | Layout::Stepped => ORDER_WORDS,
+        }
+    }
+
+    /// The words of a sheet with so many orders.
+    pub const fn length(self, orders: usize) -> usize {
+        self.orders_begin() + self.order_words() * orders
+    }
+
+    /// The layout that is as long with so many orders, allowed or not. No two of them are, so that
+    /// the length alone tells which it is; none if the length is wrong.
+    pub fn of_length(length: usize, orders: usize) -> Option<Layout> {
+        let mut layouts = Layout::ALL.into_iter();
+        layouts.find(|layout| layout.length(orders) == length)
     }
 }
 
@@ -105,6 +167,8 @@ pub struct Sheet {
     pub last_purchase: Price,
     /// I, the indicative price.
     pub indicative: Price,
+    /// What the step word says, if there is one.
+    pub step: Option<QuotationStep>,
     pub orders: Vec<Order>,
 }
 
@@ -118,8 +182,22 @@ impl Sheet {
             word(4, self.indicative.0),
             word(5, self.orders.len() as u32),
         ];
+        let step = self.step.map(|step| word(0, step.0));
         let orders = self.orders.iter().flat_map(Order::words);
-        heading.into_iter().chain(orders).collect()
+        heading.into_iter().chain(step).chain(orders).collect()
+    }
+
+    /// How far Steppers stand from their best rivals, by the step word or without it.
+    pub fn step_in_force(&self) -> QuotationStep {
+        self.step.unwrap_or(QuotationStep::USUAL)
+    }
+
+    /// The same sheet with another step word, or with none.
+    pub fn with_step(&self, step: Option<QuotationStep>) -> Sheet {
+        Sheet {
+            step,
+            ..self.clone()
+        }
     }
 
     /// Whether a price lies in D..H.
@@ -144,8 +222,9 @@ pub fn value(word: u32) -> u32 {
 
 /// Checks the heading, then one order after the other; the first fault is the refusal.
 pub fn read(words: &[u32], grid: Grid) -> Result<Sheet, Refusal> {
-    let mut sheet = read_heading(words, grid)?;
-    for (number, three) in words[HEADING_WORDS..].chunks(ORDER_WORDS).enumerate() {
+    let (mut sheet, layout) = read_heading(words, grid)?;
+    let orders = words[layout.orders_begin()..].chunks(layout.order_words());
+    for (number, three) in orders.enumerate() {
         let order = read_order(three, grid).map_err(|fault| Refusal {
             number: fault,
             place: number,
@@ -155,8 +234,9 @@ pub fn read(words: &[u32], grid: Grid) -> Result<Sheet, Refusal> {
     Ok(sheet)
 }
 
-/// Refusals 1, 2, 3, 15, 4 in this order, each over all its words before the next.
-fn read_heading(words: &[u32], grid: Grid) -> Result<Sheet, Refusal> {
+/// Refusals 1, 2, 3, 15, 17, 4 in this order, each over all its words before the next. The sheet is
+/// handed back without its orders, and with how to find them.
+fn read_heading(words: &[u32], grid: Grid) -> Result<(Sheet, Layout), Refusal> {
     if words.len() < HEADING_WORDS {
         return Err(TOO_SHORT);
     }
@@ -173,17 +253,31 @@ fn read_heading(words: &[u32], grid: Grid) -> Result<Sheet, Refusal> {
     if !(lower < indicative && indicative < upper) {
         return Err(HEADING_BAND);
     }
-    let count = value(words[4]) as usize;
-    if count > MOST_ORDERS || words.len() != HEADING_WORDS + ORDER_WORDS * count {
-        return Err(LENGTH);
-    }
-    Ok(Sheet {
+    let (layout, step) = read_layout(words)?;
+    let sheet = Sheet {
         lower,
         upper,
         last_purchase,
         indicative,
+        step,
         orders: Vec::new(),
-    })
+    };
+    Ok((sheet, layout))
+}
+
+/// Refusals 17 and 4. Where the length is that of a sheet with a step word, the sixth word is
+/// judged as one, whatever else it may be, and before the count is found too high.
+fn read_layout(words: &[u32]) -> Result<(Layout, Option<QuotationStep>), Refusal> {
+    let count = value(words[4]) as usize;
+    let layout = Layout::of_length(words.len(), count).ok_or(LENGTH)?;
+    let step = match layout.has_step() {
+        true => Some(QuotationStep::read(words[STEP_PLACE]).ok_or(HEADING_STEP)?),
+        false => None,
+    };
+    if count > MOST_ORDERS {
+        return Err(LENGTH);
+    }
+    Ok((layout, step))
 }
 
 /// Refusals 5, 6, 7, 8 of one order; the number is handed back alone.

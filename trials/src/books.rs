@@ -60,6 +60,7 @@ fn random_book(random: &mut Random, kind: &str, orders: u64) -> Sheet {
         upper: price(high),
         last_purchase: price(middle),
         indicative: price(middle),
+        step: None,
         orders: (0..orders).map(|_| random_order(random, &mix)).collect(),
     }
 }

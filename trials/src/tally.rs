@@ -1,8 +1,9 @@
 //! What was met on the way.
 
 use reference::answer::Opening;
+use reference::fast::opening::first_round;
 use reference::fees::{worth, Tariff};
-use reference::sheet::{Order, Pieces, Sheet};
+use reference::sheet::{Grid, Order, Pieces, Sheet};
 
 #[derive(Clone, Copy)]
 pub enum Call {
@@ -33,7 +34,7 @@ const CALLS: [&str; 10] = [
 ];
 
 /// 0, and the numbers of the refusals.
-const NUMBERS: usize = 17;
+const NUMBERS: usize = 18;
 
 #[derive(Default)]
 pub struct Tally {
@@ -50,6 +51,9 @@ pub struct Tally {
     largest: u64,
     with_steppers: u64,
     with_all_or_none: u64,
+    /// Openings of sheets with a step word, and those of them whose first round would be another without it.
+    with_step: u64,
+    by_the_step: u64,
     /// Openings whose first round trades.
     trading: u64,
     fees: Fees,
@@ -130,6 +134,8 @@ impl Tally {
         self.largest += u64::from(orders == 120);
         self.with_steppers += u64::from(sheet.orders.iter().any(Order::is_stepper));
         self.with_all_or_none += u64::from(sheet.orders.iter().any(Order::is_all_or_none));
+        self.with_step += u64::from(sheet.step.is_some());
+        self.by_the_step += u64::from(goes_by_the_step(sheet));
         self.trading += u64::from(opening.rounds[0].total > Pieces(0));
         for round in &opening.rounds {
             self.situations[round.situation as usize] += 1;
@@ -183,6 +189,8 @@ impl Tally {
         self.largest += other.largest;
         self.with_steppers += other.with_steppers;
         self.with_all_or_none += other.with_all_or_none;
+        self.with_step += other.with_step;
+        self.by_the_step += other.by_the_step;
         self.trading += other.trading;
         self.fees.join(&other.fees);
     }
@@ -201,6 +209,10 @@ impl Tally {
             "with Steppers: {}, with all-or-none orders: {}",
             self.with_steppers, self.with_all_or_none
         );
+        println!(
+            "with a step word: {}, of these with another first round than without it: {}",
+            self.with_step, self.by_the_step
+        );
         println!("trading in the first round: {}", self.trading);
         println!("of one round {one}, of two {two}, of 3 to 9 {few}, of 10 to 59 {many}, of 60 and more {sixty}");
         println!("most rounds: {}", self.most_rounds);
@@ -214,6 +226,12 @@ impl Tally {
         );
         println!("openings due 0: {none}, 1: {one}, 2 to 9: {few}, 10 to 142: {many}, 143: {most}");
     }
+}
+
+/// Whether the first round would be another if the sheet had no step word.
+fn goes_by_the_step(sheet: &Sheet) -> bool {
+    let first = |sheet: &Sheet| first_round(sheet, Grid::DOCUMENT);
+    sheet.step.is_some() && first(sheet) != first(&sheet.with_step(None))
 }
 
 /// How often a call answered, and the refusals that it met by their numbers.

@@ -64,9 +64,9 @@ module _ (h : Heading) (a : Auction) (os : List Standing) (fills : List ℕ) (la
 stepped-allows : (h : Heading) (s : Side) (limit : ℕ) (rival : Option ℕ) (p : ℕ) → allows s (stepped h s limit rival) p ≡ true
     → allows s limit p ≡ true
 unfolding stepped
-stepped-allows h Buy limit (some rival) p e = le-leb p limit (omega (arith, leb-true p (min limit (max (D h) (rival + 1))) e))
+stepped-allows h Buy limit (some rival) p e = le-leb p limit (omega (arith, leb-true p (min limit (max (D h) (rival + h .step .0))) e))
 stepped-allows h Buy limit none p e = le-leb p limit (omega (arith, leb-true p (min limit (D h)) e))
-stepped-allows h Sell limit (some rival) p e = le-leb limit p (omega (arith, leb-true (max limit (min (H h) (rival - 1))) p e))
+stepped-allows h Sell limit (some rival) p e = le-leb limit p (omega (arith, leb-true (max limit (min (H h) (rival - h .step .0))) p e))
 stepped-allows h Sell limit none p e = le-leb limit p (omega (arith, leb-true (max limit (H h)) p e))
 
 -- what the limit in force allows, the entered limit allows

@@ -1,4 +1,4 @@
--- What is known of every accepted sheet: its prices are on the grid, its quantities from 1 to 1,000,000, its length fits.
+-- What is known of every accepted sheet: its prices are on the grid, its step is 1 to 1,000, its quantities 1 to 1,000,000, its length fits.
 -- In an accepted sheet no row of the table arises; each row that does not arise is one of the facts below. Of a call on it only the
 -- call's own rows are left; a refused sheet refuses every call.
 use mathlib.Core.Bool.{Bool, true, false, _&&_, _||_}
@@ -13,7 +13,7 @@ use borrow.Author.Tests.{leb-true, ltb-true, lt-ltb, le-ltb, eqb-true, not-false
 use Rattle.rules.specs.Answers.{gives, refuses, Check, row, downwards}
 use Rattle.rules.specs.Calls.{onSheet, wordsGiven}
 use Rattle.rules.specs.Grid.{onGrid}
-use Rattle.rules.specs.Sheet.{orderPlace, headingOf, pricesOnGrid, bandEncloses, lengthFits, mostOrders, termsAllowed, quantityAllowed, ignoredAllowed, termsOf, orderFrom, orderAt, ordersOf, headingChecks, orderChecks, ordersChecks, sheetChecks, checkSheet, AcceptedSheet}
+use Rattle.rules.specs.Sheet.{orderPlace, layoutOf, stepWord, headingFrom, headingOf, pricesOnGrid, bandEncloses, stepAllowed, lengthFits, mostOrders, termsAllowed, quantityAllowed, ignoredAllowed, termsOf, orderFrom, orderAt, ordersOf, headingChecks, orderChecks, ordersChecks, sheetChecks, checkSheet, AcceptedSheet}
 use Rattle.rules.specs.declared.Heading.{Heading}
 use Rattle.rules.specs.declared.Order.{Order}
 use Rattle.rules.specs.declared.Terms.{Terms}
@@ -31,6 +31,7 @@ pub record SoundHeading (h : Heading) : Type 0 where
   pub indicative : OnGrid (h .indicative .0)
   pub above-lower : h .lower .0 < h .indicative .0
   pub below-upper : h .indicative .0 < h .upper .0
+  pub step : (1 ≤ h .step .0) × (h .step .0 ≤ 1000)
   pub count : h .count ≤ mostOrders
 
 -- a limit, where there is one, is on the grid, and no more than 1,000,000 pieces are ignored
@@ -46,17 +47,23 @@ pub record SoundOrder (o : Order) : Type 0 where
 
 pub record SoundSheet (ws : List ℕ) : Type 0 where
   pub heading : SoundHeading (headingOf ws)
-  pub words : length ws ≡ orderPlace (headingOf ws .count)
+  pub words : length ws ≡ orderPlace (layoutOf ws) (headingOf ws .count)
   pub orders : (k : ℕ) (d : Order) → k < headingOf ws .count → SoundOrder (getD (ordersOf ws) k d)
 
 -- the band runs from D to H
 pub sound-band : {ws : List ℕ} → SoundSheet ws → headingOf ws .lower .0 ≤ headingOf ws .upper .0
 sound-band sound = omega (arith, sound .heading .above-lower, sound .heading .below-upper)
 
-sound-heading : (h : Heading) → pricesOnGrid h ≡ true → bandEncloses h ≡ true → leb (h .count) mostOrders ≡ true
-    → SoundHeading h
+step-within : (f : Word) → stepAllowed f ≡ true → (1 ≤ f .value) × (f .value ≤ 1000)
+unfolding stepAllowed
+step-within f allowed =
+    let two = both allowed in
+    (leb-true _ _ (both {a = eqb (f .kind) 0} (two .0) .1), leb-true _ _ (two .1))
+
+sound-heading : (h : Heading) → pricesOnGrid h ≡ true → bandEncloses h ≡ true → (1 ≤ h .step .0) × (h .step .0 ≤ 1000)
+    → leb (h .count) mostOrders ≡ true → SoundHeading h
 unfolding pricesOnGrid bandEncloses
-sound-heading h grid encloses few =
+sound-heading h grid encloses step few =
     let three = both grid in
     let two = both (three .0) in
     let one = both (two .0) in
@@ -68,22 +75,25 @@ sound-heading h grid encloses few =
       indicative = on-grid _ (three .1);
       above-lower = ltb-true _ _ (sides .0);
       below-upper = ltb-true _ _ (sides .1);
+      step = step;
       count = leb-true _ _ few;
     }
 
--- rows 3, 15 and 4 of a heading that passes, and its length
+-- rows 3, 15, 17 and 4 of a heading that passes, and its length
 pub heading-passes : (ws : List ℕ) → Clear (headingChecks ws)
-    → SoundHeading (headingOf ws) × (length ws ≡ orderPlace (headingOf ws .count))
-unfolding headingChecks lengthFits
+    → SoundHeading (headingOf ws) × (length ws ≡ orderPlace (layoutOf ws) (headingOf ws .count))
+unfolding headingChecks lengthFits headingFrom headingOf
 heading-passes ws p =
     let after-1 = clear-rest _ _ p in
     let after-2 = clear-rest _ _ after-1 in
     let after-3 = clear-rest _ _ after-2 in
     let after-15 = clear-rest _ _ after-3 in
+    let after-17 = clear-rest _ _ after-15 in
     let prices = not-false _ (clear-row _ _ after-2) in
     let encloses = not-false _ (clear-row _ _ after-3) in
-    let fits = both (not-false _ (clear-row _ _ after-15)) in
-    (sound-heading (headingOf ws) prices encloses (fits .0), eqb-true _ _ (fits .1))
+    let step = step-within (stepWord ws) (not-false _ (clear-row _ _ after-15)) in
+    let fits = both (not-false _ (clear-row _ _ after-17)) in
+    (sound-heading (headingOf ws) prices encloses step (fits .0), eqb-true _ _ (fits .1))
 
 sound-terms : (disposition limit ignored : ℕ) → termsAllowed disposition limit ≡ true → ignoredAllowed disposition ignored ≡ true
     → SoundTerms (termsOf disposition limit ignored)

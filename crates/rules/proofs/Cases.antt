@@ -13,7 +13,7 @@ use Rattle.rules.specs.Answers.{Answer, gives, refuses, downwards}
 use Rattle.rules.specs.AuctionPrice.{level, uncrossed, auctionBy}
 use Rattle.rules.specs.Band.{bandStands, indicativePrice, nextUpper, nextLower, nextBandFor, percentOf, nextBand, widenedUpper, widenedLower, widenedFor, widenedBand}
 use Rattle.rules.specs.Calls.{answerBy, answer, wordsGiven}
-use Rattle.rules.specs.Cases.{Case, AllHold, documentCases, furtherCases, waitingCases, feeCases, AllCharge, charges, listing, listingResult, ListingSaid, AllPrint, printings}
+use Rattle.rules.specs.Cases.{Case, AllHold, documentCases, furtherCases, waitingCases, feeCases, stepCases, AllCharge, charges, listing, listingResult, ListingSaid, AllPrint, printings}
 use Rattle.rules.specs.Fees.{tariffStands, fillFee, orderFee, tradeSaid, feesOn}
 use Rattle.rules.specs.Fills.{eligible, firstOf, total, offered, ahead, share, reaches, largestTotal, fillsOf}
 use Rattle.rules.specs.Grid.{onGrid, movedInto}
@@ -22,7 +22,7 @@ use Rattle.rules.specs.Listing.{inputFits, wordIn, sheetIn, wordLine, wo
 use Rattle.rules.specs.Lists.{listed, sumTo, everyTo, largestTo}
 use Rattle.rules.specs.Opening.{settled, firstStart, after, goesOn, endingAfter, roundsFrom, roundWords, roundsWords, endingOf, resultWords, openingBy, openingWords}
 use Rattle.rules.specs.Result.{roundSaid, startSaid, standingSaid}
-use Rattle.rules.specs.Sheet.{headingKinds, headingFrom, headingOf, pricesOnGrid, bandEncloses, lengthFits, orderKinds, termsAllowed, quantityAllowed, ignoredAllowed, sideOf, termsOf, orderFrom, orderAt, ordersOf, headingChecks, orderChecks, ordersChecks, sheetChecks, checkSheet}
+use Rattle.rules.specs.Sheet.{layoutFor, stepWord, headingKinds, headingFrom, headingOf, pricesOnGrid, bandEncloses, stepAllowed, lengthFits, orderKinds, termsAllowed, quantityAllowed, ignoredAllowed, sideOf, termsOf, orderFrom, orderAt, ordersOf, headingChecks, orderChecks, ordersChecks, sheetChecks, checkSheet}
 use Rattle.rules.specs.Waiting.{waitingWord, afterOutside, afterInside, timeIsUp, afterTime, afterSecond, afterWord, waitingChecks, followed, waitingClock}
 
 -- a test of two answers, and what it tells
@@ -66,14 +66,15 @@ all-same (c ∷ cs) e =
     let t = both {a = same (quickAnswer (c .call)) (c .expected)} e in
     (quick-answer (c .call) ∙ same-answer (quickAnswer (c .call)) (c .expected) (t .0), all-same cs (t .1))
 
--- P1–P12 hold, and so do the further cases, those of the waiting clock and those of fees
-pub cases-hold : AllHold documentCases × AllHold furtherCases × AllHold waitingCases × AllHold feeCases
-unfolding allSame same sameNumbers documentCases furtherCases waitingCases feeCases quickAnswer quickRound limitEnds levelEnds answerBy downwards headingKinds headingFrom headingOf pricesOnGrid bandEncloses lengthFits orderKinds termsAllowed quantityAllowed ignoredAllowed sideOf termsOf orderFrom orderAt ordersOf headingChecks orderChecks ordersChecks sheetChecks checkSheet onGrid movedInto listed sumTo everyTo largestTo piecesAt enteredLimit entered stepped limitInForce standingBy level uncrossed auctionBy eligible firstOf total offered ahead share reaches largestTotal fillsOf settled firstStart after goesOn endingAfter roundsFrom roundWords roundsWords endingOf resultWords openingBy bandStands indicativePrice nextUpper nextLower nextBandFor percentOf nextBand widenedUpper widenedLower widenedFor widenedBand waitingWord afterOutside afterInside timeIsUp afterTime afterSecond afterWord waitingChecks followed waitingClock tariffStands
+-- P1–P12 hold, and so do the further cases, those of the waiting clock, of fees and of the step
+pub cases-hold : AllHold documentCases × AllHold furtherCases × AllHold waitingCases × AllHold feeCases × AllHold stepCases
+unfolding allSame same sameNumbers documentCases furtherCases waitingCases feeCases stepCases quickAnswer quickRound limitEnds levelEnds answerBy downwards layoutFor stepWord headingKinds headingFrom headingOf pricesOnGrid bandEncloses stepAllowed lengthFits orderKinds termsAllowed quantityAllowed ignoredAllowed sideOf termsOf orderFrom orderAt ordersOf headingChecks orderChecks ordersChecks sheetChecks checkSheet onGrid movedInto listed sumTo everyTo largestTo piecesAt enteredLimit entered stepped limitInForce standingBy level uncrossed auctionBy eligible firstOf total offered ahead share reaches largestTotal fillsOf settled firstStart after goesOn endingAfter roundsFrom roundWords roundsWords endingOf resultWords openingBy bandStands indicativePrice nextUpper nextLower nextBandFor percentOf nextBand widenedUpper widenedLower widenedFor widenedBand waitingWord afterOutside afterInside timeIsUp afterTime afterSecond afterWord waitingChecks followed waitingClock tariffStands
 cases-hold = (
   all-same documentCases refl,
   all-same furtherCases refl,
   all-same waitingCases refl,
   all-same feeCases refl,
+  all-same stepCases refl,
 )
 
 -- the fees on results are those of the table
@@ -84,7 +85,7 @@ charges-hold =
 
 -- what the listing's words say
 pub listing-said : ListingSaid
-unfolding roundSaid startSaid standingSaid standing standingBy total after firstStart headingFrom headingOf sideOf termsOf orderFrom orderAt ordersOf listed sumTo feesOn orderFee fillFee tradeSaid movedInto
+unfolding roundSaid startSaid standingSaid standing standingBy total after firstStart layoutFor headingFrom headingOf sideOf termsOf orderFrom orderAt ordersOf listed sumTo feesOn orderFee fillFee tradeSaid movedInto
 listing-said =
     record { rounds = refl; first = refl; second = refl; pieces = refl; bought = refl; fees = refl; noFees = refl }
 
@@ -92,10 +93,10 @@ listing-said =
 
 -- what P1 says of the words of the listing's opening
 listing-opened : openingWords listing ≡ listingResult
-unfolding openingWords answer answerBy downwards documentCases headingKinds headingFrom headingOf pricesOnGrid bandEncloses lengthFits orderKinds termsAllowed quantityAllowed ignoredAllowed headingChecks orderChecks ordersChecks sheetChecks onGrid listed
+unfolding openingWords answer answerBy downwards documentCases layoutFor stepWord headingKinds headingFrom headingOf pricesOnGrid bandEncloses stepAllowed lengthFits orderKinds termsAllowed quantityAllowed ignoredAllowed headingChecks orderChecks ordersChecks sheetChecks onGrid listed
 listing-opened = ap wordsGiven (cases-hold .0 .0)
 
 -- the program prints the listing, and the refusals
 pub printings-hold : AllPrint printings
-unfolding printings programAnswer inputFits sheetIn wordIn printedAnswer wordLines wordLine refusalLine figures figuresIn downwards headingKinds headingFrom headingOf pricesOnGrid bandEncloses lengthFits orderKinds termsAllowed quantityAllowed ignoredAllowed headingChecks orderChecks ordersChecks sheetChecks onGrid listed
-printings-hold = (ap wordLines listing-opened, (refl, (refl, (refl, (refl, tt)))))
+unfolding printings programAnswer inputFits sheetIn wordIn printedAnswer wordLines wordLine refusalLine figures figuresIn downwards layoutFor stepWord headingKinds headingFrom headingOf pricesOnGrid bandEncloses stepAllowed lengthFits orderKinds termsAllowed quantityAllowed ignoredAllowed headingChecks orderChecks ordersChecks sheetChecks onGrid listed
+printings-hold = (ap wordLines listing-opened, (refl, (refl, (refl, (refl, (refl, tt))))))

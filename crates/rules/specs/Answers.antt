@@ -19,7 +19,7 @@ use Rattle.rules.specs.declared.Phase.the-variants.{Idle, Waiting}
 use Rattle.rules.specs.declared.PriceAnswer.{PriceAnswer}
 use Rattle.rules.specs.declared.PriceAnswer.the-variants.{At, Refused as NoPrice}
 use Rattle.rules.specs.declared.Refusal.{Refusal}
-use Rattle.rules.specs.declared.Refusal.the-variants.{FewWords, HeadingKind, HeadingPrice, HeadingBand, Length, Order, Argument, AtWord, Tariff, Band, Space, Input}
+use Rattle.rules.specs.declared.Refusal.the-variants.{FewWords, HeadingKind, HeadingPrice, HeadingBand, HeadingStep, Length, Order, Argument, AtWord, Tariff, Band, Space, Input}
 use Rattle.rules.specs.declared.SpaceAnswer.{SpaceAnswer}
 use Rattle.rules.specs.declared.SpaceAnswer.the-variants.{Written, Refused as NoWords}
 use Rattle.rules.specs.declared.WaitingAnswer.{WaitingAnswer}
@@ -75,6 +75,7 @@ refusalNumber FewWords = 1
 refusalNumber HeadingKind = 2
 refusalNumber HeadingPrice = 3
 refusalNumber HeadingBand = 15
+refusalNumber HeadingStep = 17
 refusalNumber Length = 4
 refusalNumber (Order f k) = faultNumber f
 refusalNumber Argument = 9
@@ -90,6 +91,7 @@ refusalPlace FewWords = 0
 refusalPlace HeadingKind = 0
 refusalPlace HeadingPrice = 0
 refusalPlace HeadingBand = 0
+refusalPlace HeadingStep = 0
 refusalPlace Length = 0
 refusalPlace (Order f k) = k
 refusalPlace Argument = 0

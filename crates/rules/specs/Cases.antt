@@ -1,6 +1,6 @@
--- Clauses 12.1–12.6 of docs/RULES.md: P1–P12, further cases, those of the waiting clock and of fees, with a common statement, that the rules
--- give the answer of the case; then the fees on results, and the listing, from bytes to text. D is 90, H 110, the last purchase price 100
--- and I 100, where a sheet says nothing else.
+-- Clauses 12.1–12.6 of docs/RULES.md: P1–P12, further cases, those of the waiting clock, of fees and of the step, with a common statement,
+-- that the rules give the answer of the case; then the fees on results, and the listing, from bytes to text. D is 90, H 110, the last
+-- purchase price 100 and I 100, where a sheet says nothing else.
 use mathlib.Core.List.{List, [], _∷_, _++_, map}
 use mathlib.Core.Path.{_≡_}
 use Prim.Native.Nat.{ℕ, _+_, _*_}
@@ -69,8 +69,15 @@ abbrev pub together : List (List ℕ) → List ℕ
 together [] = []
 together (l ∷ ls) = l ++ together ls
 
+-- [12.2] The first five words of a sheet of n orders; the sheet of these orders, plain and with a word between.
+abbrev pub heading : ℕ → List ℕ
+heading n = word 1 90 ∷ word 2 110 ∷ word 3 100 ∷ word 4 100 ∷ word 5 n ∷ []
+
 abbrev pub sheet : List (List ℕ) → List ℕ
-sheet orders = word 1 90 ∷ word 2 110 ∷ word 3 100 ∷ word 4 100 ∷ word 5 (length orders) ∷ together orders
+sheet orders = heading (length orders) ++ together orders
+
+abbrev pub sheetWith : ℕ → List (List ℕ) → List ℕ
+sheetWith f orders = heading (length orders) ++ (f ∷ together orders)
 
 -- [12.2] The words of a round: situation, auction price, purchase price, total, fills.
 abbrev pub run : ℕ → ℕ → ℕ → ℕ → List ℕ → List ℕ
@@ -86,6 +93,10 @@ opens orders rounds ending =
 -- [12.2] The Stepper of number k stands at this price.
 abbrev pub standsIn : List (List ℕ) → ℕ → ℕ → Case
 standsIn orders k price = case (stepperLimit (sheet orders) k) (gives (price ∷ []))
+
+-- [12.2] The same, by a step that the sheet says.
+abbrev pub standsBy : ℕ → List (List ℕ) → ℕ → ℕ → Case
+standsBy step orders k price = case (stepperLimit (sheetWith (word 0 step) orders) k) (gives (price ∷ []))
 
 -- [12.2] The words of a waiting list: a second of the day, and a round above, below or inside the band.
 abbrev pub atSecond : ℕ → ℕ
@@ -245,10 +256,10 @@ furtherCases =
     ∷ case (check (0x1000005a ∷ 0x2000006e ∷ 0x30000064 ∷ 0x40000064 ∷ [])) (refuses 1 0)
     ∷ case (check (0x1000005a ∷ 0x2000006e ∷ 0x30000064 ∷ 0x40000064 ∷ 0x50000079 ∷ [])) (refuses 4 0)
     ∷ case (check (0x1000005a ∷ 0x2000006e ∷ 0x30000064 ∷ 0x40000064 ∷ 0x50000079 ∷ replicate 363 0)) (refuses 4 0)
-    -- a wrong kind comes before a price off the grid; a last purchase price off the grid; a word too many
+    -- a wrong kind comes before a price off the grid; a last purchase price off the grid; two words too many
     ∷ case (check (0x1000005a ∷ 0x2000006e ∷ 0x30000000 ∷ 0x50000064 ∷ 0x50000000 ∷ [])) (refuses 2 0)
     ∷ case (check (0x1000005a ∷ 0x2000006e ∷ 0x30000000 ∷ 0x40000064 ∷ 0x50000000 ∷ [])) (refuses 3 0)
-    ∷ case (check (sheet [] ++ (0x60000000 ∷ []))) (refuses 4 0)
+    ∷ case (check (sheet [] ++ (0x60000000 ∷ 0x80000001 ∷ []))) (refuses 4 0)
     -- I at D; I at H, which comes before a wrong length; a last purchase price off the grid, which comes before I at D
     ∷ case (check (0x1000005a ∷ 0x2000006e ∷ 0x30000064 ∷ 0x4000005a ∷ 0x50000000 ∷ [])) (refuses 15 0)
     ∷ case (check (0x1000005a ∷ 0x2000006e ∷ 0x30000064 ∷ 0x4000006e ∷ 0x50000001 ∷ [])) (refuses 15 0)
@@ -400,6 +411,59 @@ charges =
     ∷ charge (tariffOf 35 7 7) (sheet []) (run 4 100 0 0 [] ++ (0xf0000001 ∷ [])) []
     ∷ []
 
+-- ---- The step, worked out by hand
+
+-- [12.4c] Cases of the step.
+unfoldable pub stepCases : List Case
+stepCases =
+    -- P9 by steps of 1, as if the sheet said nothing, and of 3; by one of 5 or 1,000 only up to the Stepper's limit
+    standsBy 1 (buy 5 104 ∷ buy 3 101 ∷ stepperBuy 7 108 5 ∷ []) 2 102
+    ∷ standsBy 1 (buy 5 104 ∷ buy 3 101 ∷ stepperBuy 7 108 4 ∷ []) 2 105
+    ∷ standsBy 3 (buy 5 104 ∷ buy 3 101 ∷ stepperBuy 7 108 5 ∷ []) 2 104
+    ∷ standsBy 3 (buy 5 104 ∷ buy 3 101 ∷ stepperBuy 7 108 4 ∷ []) 2 107
+    ∷ standsBy 5 (buy 5 104 ∷ buy 3 101 ∷ stepperBuy 7 108 4 ∷ []) 2 108
+    ∷ standsBy 1000 (buy 5 104 ∷ buy 3 101 ∷ stepperBuy 7 108 5 ∷ []) 2 108
+    -- P10 by the largest step: without a rival price it stands where it stood
+    ∷ standsBy 1000 (stepperBuy 7 108 0 ∷ []) 0 90
+    ∷ standsBy 1000 (stepperBuy 7 80 0 ∷ []) 0 80
+    -- both mirrored
+    ∷ standsBy 3 (sell 5 96 ∷ sell 3 99 ∷ stepperSell 7 92 5 ∷ []) 2 96
+    ∷ standsBy 3 (sell 5 96 ∷ sell 3 99 ∷ stepperSell 7 92 4 ∷ []) 2 93
+    ∷ standsBy 5 (sell 5 96 ∷ sell 3 99 ∷ stepperSell 7 92 4 ∷ []) 2 92
+    ∷ standsBy 1000 (stepperSell 7 92 0 ∷ []) 0 110
+    ∷ standsBy 1000 (stepperSell 7 120 0 ∷ []) 0 120
+    -- the largest step in full; a price that the step would take off the grid, at either end
+    ∷ standsBy 1000 (buy 5 104 ∷ stepperBuy 7 2000 4 ∷ []) 1 1104
+    ∷ standsBy 1000 (buy 5 999001 ∷ stepperBuy 7 1000000 4 ∷ []) 1 1000000
+    ∷ standsBy 4 (sell 5 5 ∷ stepperSell 7 1 4 ∷ []) 1 1
+    ∷ standsBy 5 (sell 5 5 ∷ stepperSell 7 2 4 ∷ []) 1 2
+    ∷ standsBy 1000 (sell 5 5 ∷ stepperSell 7 3 4 ∷ []) 1 3
+    -- not before the bound: a rival outside the band, from which the step does not reach it, and from which it does
+    ∷ standsBy 3 (buy 5 70 ∷ stepperBuy 7 108 4 ∷ []) 1 90
+    ∷ standsBy 25 (buy 5 70 ∷ stepperBuy 7 108 4 ∷ []) 1 95
+    ∷ standsBy 3 (sell 5 130 ∷ stepperSell 7 92 4 ∷ []) 1 110
+    ∷ standsBy 25 (sell 5 130 ∷ stepperSell 7 92 4 ∷ []) 1 105
+    -- an opening: the Stepper stands at 105, and comes first
+    ∷ case (opening (sheetWith (word 0 5) (buy 3 100 ∷ stepperBuy 5 108 0 ∷ sell 4 95 ∷ [])) 29)
+    (gives (together (run 0 105 105 4 (0 ∷ 4 ∷ 4 ∷ []) ∷ run 2 105 0 0 (0 ∷ 0 ∷ 0 ∷ []) ∷ []) ++ (0xf0000002 ∷ [])))
+    ∷ case (curvesAt (sheetWith (word 0 5) (buy 3 100 ∷ stepperBuy 5 108 0 ∷ sell 4 95 ∷ [])) 103) (gives (5 ∷ 4 ∷ 4 ∷ []))
+    -- both ends of the range, and beyond them; a kind other than 0
+    ∷ case (check (sheetWith (word 0 1) [])) (gives [])
+    ∷ case (check (sheetWith (word 0 1000) (buy 4 95 ∷ []))) (gives [])
+    ∷ case (check (sheetWith (word 0 0) (buy 4 95 ∷ []))) (refuses 17 0)
+    ∷ case (check (sheetWith (word 0 1001) [])) (refuses 17 0)
+    ∷ case (check (sheetWith (word 1 1) [])) (refuses 17 0)
+    -- a word too many: the first order's first word is where a step word would be
+    ∷ case (check (listing ++ (0x90000000 ∷ []))) (refuses 17 0)
+    -- I at H comes before the step word; the step word before the number of orders, 121
+    ∷ case (check (0x1000005a ∷ 0x2000006e ∷ 0x30000064 ∷ 0x4000006e ∷ 0x50000000 ∷ 0 ∷ [])) (refuses 15 0)
+    ∷ case (check (heading 121 ++ (word 0 0 ∷ replicate 363 0))) (refuses 17 0)
+    ∷ case (check (heading 121 ++ (word 0 1 ∷ replicate 363 0))) (refuses 4 0)
+    -- two orders behind a step word, the second at fault; without its last word the sheet is plain, and order 0 begins with the step word
+    ∷ case (check (sheetWith (word 0 7) (buy 4 95 ∷ sell 0 95 ∷ []))) (refuses 7 1)
+    ∷ case (check (heading 1 ++ (word 0 7 ∷ word 6 95 ∷ word 8 4 ∷ []))) (refuses 5 0)
+    ∷ []
+
 -- ---- What the words of the listing's result say
 
 -- [12.5] The words of the listing's result, read.
@@ -451,10 +515,11 @@ unfoldable pub printings : List Printing
 printings =
     -- the listing
     prints listingBytes "a0000000\nb0000069\nc0000069\nd0000004\ne0000004\ne0000004\na0000002\nb0000069\nc0000000\nd0000000\ne0000000\ne0000000\nf0000002\n"
-    -- no input at all, a byte, and 1,464 bytes
+    -- no input at all, a byte, 1,464 bytes and 1,468
     ∷ prints [] "refused 1 0\n"
     ∷ prints (16 ∷ []) "refused 12 0\n"
-    ∷ prints (replicate 1464 0) "refused 12 0\n"
+    ∷ prints (replicate 1464 0) "refused 2 0\n"
+    ∷ prints (replicate 1468 0) "refused 12 0\n"
     -- a wrong kind in the listing's order 1
     ∷ prints (set listingBytes 32 0x50) "refused 5 1\n"
     ∷ []

@@ -99,13 +99,13 @@ rivalPieces h orders remaining k p = piecesAt (others k) (filed orders k .side) 
 abbrev pub bestRival : Scan ℕ → Side → ℕ → Option ℕ
 bestRival rivals s ignored = rivals .best s (λ pieces. ltb ignored pieces)
 
--- [4.6] A buying Stepper goes to 1 above its best rival price but at least to D, and to D where there is no such price;
--- at most to its entered limit. A selling one goes to 1 below its best rival price but at most to H, and to H where
--- there is no such price; at least to its entered limit.
+-- [4.6] A buying Stepper goes the sheet's step above its best rival price but at least to D, and to D where there is no such
+-- price; at most to its entered limit. A selling one goes the step below its best rival price but at most to H, and to H where
+-- there is no such price; at least to its entered limit, and so also where the step is as large as the price, or larger.
 unfoldable pub stepped : Heading → Side → ℕ → Option ℕ → ℕ
-stepped h Buy limit (some rival) = min limit (max (D h) (rival + 1))
+stepped h Buy limit (some rival) = min limit (max (D h) (rival + h .step .0))
 stepped h Buy limit none = min limit (D h)
-stepped h Sell limit (some rival) = max limit (min (H h) (rival - 1))
+stepped h Sell limit (some rival) = max limit (min (H h) (rival - h .step .0))
 stepped h Sell limit none = max limit (H h)
 
 -- [4.7] A Stepper steps, worked out anew from what remains in the round; all others keep their entered limit.

@@ -17,7 +17,7 @@ use Rattle.rules.specs.Sheet.{sheetChecks}
 
 -- [11.1] The most bytes of a sheet that the program reads.
 abbrev pub mostBytes : ℕ
-mostBytes = 1460
+mostBytes = 1464
 
 -- [11.1] A whole number of words, and not too many.
 unfoldable pub inputFits : List ℕ → Bool

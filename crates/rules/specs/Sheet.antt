@@ -1,4 +1,4 @@
--- Clauses 3.1–3.14 of docs/RULES.md: what a sheet says, and refusals 1–8 and 15.
+-- Clauses 3.1–3.14 of docs/RULES.md: what a sheet says, and refusals 1–8, 15 and 17.
 use mathlib.Core.Bool.{Bool, not, _&&_, _||_, cond}
 use mathlib.Core.List.{List, [], _∷_, _++_}
 use mathlib.Core.Path.{_≡_}
@@ -19,37 +19,55 @@ use Rattle.rules.specs.declared.Word.{Word}
 
 -- ---- Where a sheet's words stand
 
--- [3.1] The heading's 5 words, then 3 for each order.
-abbrev pub headingWords : ℕ
-headingWords = 5
-
-abbrev pub orderWords : ℕ
-orderWords = 3
+-- [3.1] A layout: how many words the heading has, and how many each order.
+pub record Layout : Type 0 where
+  pub heading : ℕ
+  pub order : ℕ
 
 -- [3.1] Where the words of order k begin; of k = n, the number of orders, it is the length of the sheet.
-abbrev pub orderPlace : ℕ → ℕ
-orderPlace k = headingWords + orderWords * k
+abbrev pub orderPlace : Layout → ℕ → ℕ
+orderPlace l k = l .heading + l .order * k
+
+-- [3.1] A plain sheet has a heading of 5 words, one with a step word a heading of 6; an order has 3.
+abbrev pub plain : Layout
+plain = record { heading = 5; order = 3 }
+
+abbrev pub withStep : Layout
+withStep = record { heading = 6; order = 3 }
+
+-- [3.1] The length alone tells which it is: with a step word, if it is the length of such a sheet of n orders.
+unfoldable pub layoutFor : ℕ → ℕ → Layout
+layoutFor n words = cond (eqb words (orderPlace withStep n)) withStep plain
+
+-- [3.1] The layout of a sheet, whose word 4 says n.
+abbrev pub layoutOf : List ℕ → Layout
+layoutOf ws = layoutFor (wordAt ws 4 .value) (length ws)
 
 -- ---- The heading
 
--- [3.2] The kinds of the five words, 1 to 5.
+-- [3.1a] The step word is word 5. A sheet that has none means the same as with one of kind 0 and value 1.
+unfoldable pub stepWord : List ℕ → Word
+stepWord ws = cond (eqb (layoutOf ws .heading) 6) (wordAt ws 5) (record { kind = 0; value = 1 })
+
+-- [3.2] The kinds of the first five words, 1 to 5.
 unfoldable pub headingKinds : Word → Word → Word → Word → Word → Bool
 headingKinds a b c d e =
     eqb (a .kind) 1 && eqb (b .kind) 2 && eqb (c .kind) 3 && eqb (d .kind) 4 && eqb (e .kind) 5
 
--- [3.2] D, H, the last purchase price, I and n are the values of the five words.
-unfoldable pub headingFrom : Word → Word → Word → Word → Word → Heading
-headingFrom a b c d e = record {
+-- [3.2] D, H, the last purchase price, I and n are the values of the first five words, the step is that of the step word.
+unfoldable pub headingFrom : Word → Word → Word → Word → Word → Word → Heading
+headingFrom a b c d e f = record {
   lower = record { 0 = a .value };
   upper = record { 0 = b .value };
   last = record { 0 = c .value };
   indicative = record { 0 = d .value };
   count = e .value;
+  step = record { 0 = f .value };
 }
 
 -- [3.2] The heading of a sheet, and its D, H and I.
 unfoldable pub headingOf : List ℕ → Heading
-headingOf ws = headingFrom (wordAt ws 0) (wordAt ws 1) (wordAt ws 2) (wordAt ws 3) (wordAt ws 4)
+headingOf ws = headingFrom (wordAt ws 0) (wordAt ws 1) (wordAt ws 2) (wordAt ws 3) (wordAt ws 4) (stepWord ws)
 
 abbrev pub D : Heading → ℕ
 D h = h .lower .0
@@ -68,13 +86,17 @@ pricesOnGrid h = onGrid (h .lower .0) && onGrid (h .upper .0) && onGrid (h .last
 unfoldable pub bandEncloses : Heading → Bool
 bandEncloses h = ltb (h .lower .0) (h .indicative .0) && ltb (h .indicative .0) (h .upper .0)
 
+-- [3.4a] The step word has kind 0, and the step is 1 to 1,000.
+unfoldable pub stepAllowed : Word → Bool
+stepAllowed f = eqb (f .kind) 0 && leb 1 (f .value) && leb (f .value) 1000
+
 -- [3.5] The most orders of a sheet.
 abbrev pub mostOrders : ℕ
 mostOrders = 120
 
--- [3.5] There are no more than that, and as many words as the heading and they take.
+-- [3.5] There are no more than that, and as many words as heading and orders have in the sheet's layout.
 unfoldable pub lengthFits : ℕ → ℕ → Bool
-lengthFits n words = leb n mostOrders && eqb words (orderPlace n)
+lengthFits n words = leb n mostOrders && eqb words (orderPlace (layoutFor n words) n)
 
 -- ---- An order
 
@@ -127,7 +149,7 @@ orderIn ws at = orderFrom (wordAt ws at) (wordAt ws (at + 1)) (wordAt ws (at + 2
 
 -- [3.11] Order k, as filed.
 unfoldable pub orderAt : List ℕ → ℕ → Order
-orderAt ws k = orderIn ws (orderPlace k)
+orderAt ws k = orderIn ws (orderPlace (layoutOf ws) k)
 
 -- [3.11] The orders of a sheet.
 unfoldable pub ordersOf : List ℕ → List Order
@@ -135,13 +157,14 @@ ordersOf ws = listed (orderAt ws) (headingOf ws .count)
 
 -- ---- Where a refusal arises
 
--- [3.12] The heading's rows: too short; kinds; prices; the band and I; the number of orders and the length.
+-- [3.12] The heading's rows: too short; kinds; prices; the band and I; the step word; the number of orders and the length.
 unfoldable pub headingChecks : List ℕ → List Check
 headingChecks ws =
-    row 1 (ltb (length ws) headingWords)
+    row 1 (ltb (length ws) (plain .heading))
     ∷ row 2 (not (headingKinds (wordAt ws 0) (wordAt ws 1) (wordAt ws 2) (wordAt ws 3) (wordAt ws 4)))
     ∷ row 3 (not (pricesOnGrid (headingOf ws)))
     ∷ row 15 (not (bandEncloses (headingOf ws)))
+    ∷ row 17 (not (stepAllowed (stepWord ws)))
     ∷ row 4 (not (lengthFits (headingOf ws .count) (length ws)))
     ∷ []
 
@@ -161,7 +184,7 @@ checksIn ws at k = orderChecks k (wordAt ws at) (wordAt ws (at + 1)) (wordAt ws 
 -- [3.13] The checks of the first n orders, from order 0 on.
 unfoldable pub ordersChecks : List ℕ → ℕ → List Check
 ordersChecks ws zero = []
-ordersChecks ws (suc k) = ordersChecks ws k ++ checksIn ws (orderPlace k) k
+ordersChecks ws (suc k) = ordersChecks ws k ++ checksIn ws (orderPlace (layoutOf ws) k) k
 
 -- [3.14] The heading is judged first, then the orders.
 unfoldable pub sheetChecks : List ℕ → List Check

@@ -9,6 +9,9 @@ pub struct Price(pub u32);
 // Clause 1.1: a number of pieces.
 pub struct Pieces(pub u32);
 
+// Clause 1.1: how many price steps a Stepper keeps from its best rival. It is the distance of two prices, and no price.
+pub struct QuotationStep(pub u32);
+
 // The pieces of several orders together. In 64 bits there is room for any 120 quantities.
 pub struct Total(pub u64);
 
@@ -60,14 +63,15 @@ pub struct Auctioned {
     pub price: Price,
 }
 
-// The heading of a sheet: the band's bounds, the last purchase price, the indicative price and the
-// number of orders.
+// The heading of a sheet: the band's bounds, the last purchase price, the indicative price, the number
+// of orders and the quotation step.
 pub struct Heading {
     pub lower: Price,
     pub upper: Price,
     pub last: Price,
     pub indicative: Price,
     pub count: usize,
+    pub step: QuotationStep,
 }
 
 // Clause 9.10: whether a waiting phase is on, with the second of the day at which it started and its side,
@@ -133,6 +137,8 @@ pub enum Refusal {
     HeadingPrice,
     // D not below I, or I not below H.
     HeadingBand,
+    // A step word of a wrong kind or value.
+    HeadingStep,
     // More than 120 orders, or a wrong length.
     Length,
     // A fault of the order of this number.
@@ -186,6 +192,7 @@ impl Refusal {
             Refusal::HeadingKind => 2,
             Refusal::HeadingPrice => 3,
             Refusal::HeadingBand => 15,
+            Refusal::HeadingStep => 17,
             Refusal::Length => 4,
             Refusal::Order(fault, _) => fault.number(),
             Refusal::Argument => 9,
@@ -206,6 +213,7 @@ impl Refusal {
             Refusal::HeadingKind => 0,
             Refusal::HeadingPrice => 0,
             Refusal::HeadingBand => 0,
+            Refusal::HeadingStep => 0,
             Refusal::Length => 0,
             Refusal::Order(_, order) => order,
             Refusal::Argument => 0,

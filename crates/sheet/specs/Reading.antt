@@ -22,6 +22,7 @@ noHeading = record {
   last = record { 0 = 0 };
   indicative = record { 0 = 0 };
   count = 0;
+  step = record { 0 = 0 };
 }
 
 -- The heading of an accepted sheet; of a refused one none.

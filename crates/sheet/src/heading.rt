@@ -1,19 +1,21 @@
-// The heading of a sheet, words 0 to 4, and its checks, refusals 1 to 4 and 15.
+// The heading of a sheet, words 0 to 4 and the step word, and its checks, refusals 1 to 4, 15 and 17.
 ghost use mathlib.Core.Path.{_≡_};
-ghost use Prim.Native.Nat.{_≤_};
+ghost use Prim.Native.Nat.{_≤_, _<_};
 ghost use lib.ListN.{length};
-ghost use Rattle.rules.specs.Sheet.{headingWords, headingFrom};
-ghost use Rattle.sheet.specs.Steps.{headingWordsOf, wrongKinds, wrongPrices, wrongBand, wrongLength, HeadingReadsAs};
+ghost use Rattle.rules.specs.Sheet.{plain, layoutFor, headingFrom};
+ghost use Rattle.sheet.specs.Steps.{headingWordsOf, stepWordRead, wrongKinds, wrongPrices, wrongBand, wrongStep, wrongLength, HeadingReadsAs};
 use crate::HEADING_WORDS;
 use crate::ORDER_WORDS;
 use rules::Heading;
 use rules::Price;
+use rules::QuotationStep;
 use rules::Refusal;
 use rules::Word;
 use rules::on_grid;
 use words::cursor::Cursor;
+use words::cursor::Step;
 
-// The five words of a heading, and the place after them.
+// The first five words of a heading, and the place after them.
 pub(crate) struct HeadingWords {
     pub lower: Word,
     pub upper: Word,
@@ -30,7 +32,7 @@ pub(crate) enum HeadingRead {
 }
 
 fn read_heading_words(words: &[u32]) -> HeadingWords
-    requires { ⌜ headingWords ≤ length (now words) ⌝ }
+    requires { ⌜ plain .heading ≤ length (now words) ⌝ }
     ensures { λ r. ⌜ r ≡ headingWordsOf (now (words .entry)) ⌝ }
 {
     let lower = Cursor::start().step(words);
@@ -54,6 +56,32 @@ fn read_heading_words(words: &[u32]) -> HeadingWords
     }
 }
 
+// Clause 3.1: the words of the heading, by the sheet's length and its number of orders.
+fn heading_words(words: usize, count: usize) -> usize
+    requires { ⌜ count < 0x1_0000_0000 ⌝ }
+    ensures { λ r. ⌜ (r ≡ layoutFor count words .heading) × (r ≤ 6) ⌝ }
+{
+    if words == HEADING_WORDS + 1 + ORDER_WORDS * count {
+        return HEADING_WORDS + 1;
+    }
+    HEADING_WORDS
+}
+
+// The step word, where there is one, or else what a sheet without one means; and the place where the orders begin.
+fn read_step_word(words: &[u32], five: HeadingWords) -> Step
+    requires { ⌜ five ≡ headingWordsOf (now words) ⌝ }
+    ensures { λ r. ⌜ r ≡ stepWordRead (now (words .entry)) ⌝ }
+{
+    let next = five.next;
+    if heading_words(words.len(), five.count.value as usize) == HEADING_WORDS {
+        return Step {
+            word: Word { kind: 0, value: 1 },
+            next,
+        };
+    }
+    next.step(words)
+}
+
 // Refusal 2: a wrong kind in words 0 to 4.
 fn wrong_kinds(five: HeadingWords) -> bool
     ensures { λ r. ⌜ r ≡ wrongKinds five ⌝ }
@@ -65,8 +93,8 @@ fn wrong_kinds(five: HeadingWords) -> bool
         & (five.count.kind == 5))
 }
 
-fn heading_from(five: HeadingWords) -> Heading
-    ensures { λ r. ⌜ r ≡ headingFrom (five .lower) (five .upper) (five .last) (five .indicative) (five .count) ⌝ }
+fn heading_from(five: HeadingWords, sixth: Step) -> Heading
+    ensures { λ r. ⌜ r ≡ headingFrom (five .lower) (five .upper) (five .last) (five .indicative) (five .count) (sixth .word) ⌝ }
 {
     Heading {
         lower: Price(five.lower.value),
@@ -74,6 +102,7 @@ fn heading_from(five: HeadingWords) -> Heading
         last: Price(five.last.value),
         indicative: Price(five.indicative.value),
         count: five.count.value as usize,
+        step: QuotationStep(sixth.word.value),
     }
 }
 
@@ -94,6 +123,14 @@ fn wrong_band(heading: Heading) -> bool
     !((heading.lower.0 < heading.indicative.0) & (heading.indicative.0 < heading.upper.0))
 }
 
+// Refusal 17, by clause 3.4a.
+fn wrong_step(sixth: Step) -> bool
+    ensures { λ r. ⌜ r ≡ wrongStep sixth ⌝ }
+{
+    let step = sixth.word.value;
+    !((sixth.word.kind == 0) & (1 <= step) & (step <= 1000))
+}
+
 // Refusal 4, by clause 3.5.
 fn wrong_length(heading: Heading, words: usize) -> bool
     ensures { λ r. ⌜ r ≡ wrongLength words heading ⌝ }
@@ -102,7 +139,7 @@ fn wrong_length(heading: Heading, words: usize) -> bool
     if 120 < count {
         return true;
     }
-    words != HEADING_WORDS + ORDER_WORDS * count
+    words != heading_words(words, count) + ORDER_WORDS * count
 }
 
 // Reads the heading. Its checks run downwards.
@@ -113,10 +150,12 @@ pub(crate) fn read_heading(words: &[u32]) -> HeadingRead
         return HeadingRead::Refused(Refusal::FewWords);
     }
     let five = read_heading_words(words);
-    let heading = heading_from(five);
+    let sixth = read_step_word(words, five);
+    let heading = heading_from(five, sixth);
     let kinds = wrong_kinds(five);
     let prices = wrong_prices(heading);
     let band = wrong_band(heading);
+    let step = wrong_step(sixth);
     let length = wrong_length(heading, words.len());
     if kinds {
         return HeadingRead::Refused(Refusal::HeadingKind);
@@ -127,9 +166,12 @@ pub(crate) fn read_heading(words: &[u32]) -> HeadingRead
     if band {
         return HeadingRead::Refused(Refusal::HeadingBand);
     }
+    if step {
+        return HeadingRead::Refused(Refusal::HeadingStep);
+    }
     if length {
         return HeadingRead::Refused(Refusal::Length);
     }
-    let next = five.next;
+    let next = sixth.next;
     HeadingRead::Passed(heading, next)
 }

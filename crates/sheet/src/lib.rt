@@ -14,7 +14,7 @@ use rules::Checked;
 use rules::Heading;
 use rules::Order;
 
-// Clause 3.1: words of the heading, and of an order.
+// Clause 3.1: words of a heading without a step word, and of an order.
 pub(crate) const HEADING_WORDS: usize = 5;
 
 pub(crate) const ORDER_WORDS: usize = 3;

@@ -3,7 +3,7 @@ ghost use mathlib.Core.Path.{_≡_};
 ghost use mathlib.Core.Bool.{not};
 ghost use Prim.Native.Nat.{_+_, _≤_};
 ghost use lib.ListN.{length};
-ghost use Rattle.rules.specs.Sheet.{orderWords, orderKinds, termsAllowed, quantityAllowed, ignoredAllowed, sideOf, termsOf, orderFrom};
+ghost use Rattle.rules.specs.Sheet.{orderKinds, termsAllowed, quantityAllowed, ignoredAllowed, sideOf, termsOf, orderFrom};
 ghost use Rattle.rules.specs.Limits.{noOrder};
 ghost use Rattle.sheet.specs.Reading.{ReadsAs};
 ghost use Rattle.sheet.specs.Steps.{orderWordsAt, OrderCheckedAs, OrderReadsAs, HeadingReadsAs, refusedReading};
@@ -15,6 +15,7 @@ use rules::Order;
 use rules::OrderFault;
 use rules::Pieces;
 use rules::Price;
+use rules::QuotationStep;
 use rules::Refusal;
 use rules::Side;
 use rules::Terms;
@@ -43,7 +44,7 @@ pub(crate) enum OrderRead {
 }
 
 fn read_order_words(words: &[u32], cursor: Cursor) -> OrderWords
-    requires { ⌜ cursor .at + orderWords ≤ length (now words) ⌝ }
+    requires { ⌜ cursor .at + 3 ≤ length (now words) ⌝ }
     ensures { λ r. ⌜ r ≡ orderWordsAt (now (words .entry)) (cursor .at) ⌝ }
 {
     let first = cursor.step(words);
@@ -158,7 +159,7 @@ fn order_from(three: OrderWords) -> Order
 
 // Reads the order at a place.
 fn read_order(words: &[u32], cursor: Cursor) -> OrderRead
-    requires { ⌜ cursor .at + orderWords ≤ length (now words) ⌝ }
+    requires { ⌜ cursor .at + 3 ≤ length (now words) ⌝ }
     ensures { λ r. ⌜ OrderReadsAs (now (words .entry)) (cursor .at) r ⌝ }
 {
     let three = read_order_words(words, cursor);
@@ -195,6 +196,7 @@ pub(crate) fn nothing_read(refusal: Refusal) -> Reading
             last: Price(0),
             indicative: Price(0),
             count: 0,
+            step: QuotationStep(0),
         },
         orders: [none; 120],
     }

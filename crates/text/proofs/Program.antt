@@ -1,4 +1,4 @@
--- What the program answers. Bytes that fit hold a whole number of words, at most 365, and the space for the result has the words that any
+-- What the program answers. Bytes that fit hold a whole number of words, at most 366, and the space for the result has the words that any
 -- accepted sheet asks for: so row 10 never arises, and the answer is that of the sheet's checks alone.
 use mathlib.Core.Bool.{true, false}
 use mathlib.Core.List.{List, [], _∷_, _++_}

@@ -19,7 +19,7 @@ use rules::Refusal;
 use rules::SpaceAnswer;
 
 // The bytes of the longest sheet.
-pub const MOST_BYTES: usize = 1460;
+pub const MOST_BYTES: usize = 1464;
 
 // Room for the words of the longest sheet.
 fn sheet_space() -> [u32; MOST_BYTES / 4]

@@ -1,7 +1,7 @@
 //! Limits in force, from the entered limits put in order.
 
 use super::{far_bound, near_bound, Keenness, Live, State};
-use crate::sheet::{Side, Terms};
+use crate::sheet::{QuotationStep, Side, Terms};
 
 /// The orders of a side with something remaining, by entered limit, keenest first.
 fn entered(state: &State, side: Side) -> Vec<Live> {
@@ -40,10 +40,15 @@ fn best_rival(entered: &[Live], stepper: usize, ignored: u64) -> Option<Keenness
     crossing.map(|rival| rival.limit)
 }
 
-/// A Stepper stands one step keener than its best rival, at the far bound if that is keener
-/// still or if it has no rival price, and in no case keener than its entered limit.
-fn stepped(entered: Keenness, far: Keenness, rival: Option<Keenness>) -> Keenness {
-    let wanted = rival.map_or(far, |rival| rival.keener().max(far));
+/// A Stepper stands the quotation step keener than its best rival, at the far bound if that is
+/// keener still or if it has no rival price, and in no case keener than its entered limit.
+fn stepped(
+    entered: Keenness,
+    far: Keenness,
+    rival: Option<Keenness>,
+    step: QuotationStep,
+) -> Keenness {
+    let wanted = rival.map_or(far, |rival| rival.keener_by(step).max(far));
     wanted.min(entered)
 }
 
@@ -51,11 +56,12 @@ fn stepped(entered: Keenness, far: Keenness, rival: Option<Keenness>) -> Keennes
 pub fn in_force(state: &State, side: Side) -> Vec<Live> {
     let entered = entered(state, side);
     let far = far_bound(state.sheet, side);
+    let step = state.sheet.step_in_force();
     let mut orders = entered.clone();
     for order in &mut orders {
         if let Terms::Stepper { ignored, .. } = state.sheet.orders[order.number].terms {
             let rival = best_rival(&entered, order.number, ignored.0);
-            order.limit = stepped(order.limit, far, rival);
+            order.limit = stepped(order.limit, far, rival, step);
         }
     }
     orders.sort_by_key(|order| std::cmp::Reverse(order.limit));

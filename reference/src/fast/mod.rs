@@ -9,7 +9,7 @@ pub mod limits;
 pub mod opening;
 pub mod price;
 
-use crate::sheet::{Grid, Price, Sheet, Side};
+use crate::sheet::{Grid, Price, QuotationStep, Sheet, Side};
 
 /// The price for a buy, minus the price for a sell.
 #[derive(Clone, Copy, Debug, PartialEq, Eq, PartialOrd, Ord)]
@@ -24,13 +24,14 @@ impl Keenness {
         }
     }
 
+    /// The price again; a keenness beyond the grid has none.
     pub fn price(self) -> Price {
         Price(self.0.unsigned_abs() as u32)
     }
 
-    /// One price step keener.
-    pub fn keener(self) -> Keenness {
-        Keenness(self.0 + 1)
+    /// The quotation step keener, which may lead beyond the grid.
+    pub fn keener_by(self, step: QuotationStep) -> Keenness {
+        Keenness(self.0 + i64::from(step.0))
     }
 }
 

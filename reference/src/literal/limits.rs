@@ -35,7 +35,7 @@ fn rival_pieces(sheet: &Sheet, remaining: &[Pieces], stepper: usize, price: Pric
 
 /// The best price, highest for a buy and lowest for a sell, at which the rivals have more
 /// pieces than the Stepper ignores; none if there is no such price.
-fn best_rival(
+pub fn best_rival(
     sheet: &Sheet,
     grid: Grid,
     remaining: &[Pieces],
@@ -51,10 +51,7 @@ fn best_rival(
     }
 }
 
-/// A Stepper buy stands one step above its best rival price, at D if that would be lower or
-/// if it has no rival price, and in no case above its entered limit. A Stepper sell does the
-/// same downwards, with H for D. Any other order stands at its entered limit
-/// (01 'Limits in force').
+/// A Stepper stands by its best rival price; any other order stands at its entered limit.
 pub fn limit_in_force(sheet: &Sheet, grid: Grid, remaining: &[Pieces], k: usize) -> Price {
     let order = &sheet.orders[k];
     let entered = entered_limit(sheet, order);
@@ -62,10 +59,23 @@ pub fn limit_in_force(sheet: &Sheet, grid: Grid, remaining: &[Pieces], k: usize)
         return entered;
     };
     let rival = best_rival(sheet, grid, remaining, k, ignored);
-    match (order.side, rival) {
-        (Side::Buy, Some(rival)) => entered.min(sheet.lower.max(Price(rival.0 + 1))),
-        (Side::Buy, None) => entered.min(sheet.lower),
-        (Side::Sell, Some(rival)) => entered.max(sheet.upper.min(Price(rival.0 - 1))),
-        (Side::Sell, None) => entered.max(sheet.upper),
-    }
+    stepped(sheet, order.side, entered, rival)
+}
+
+/// A Stepper buy stands the quotation step above its best rival price, at D if that would be lower
+/// or if it has no rival price, and in no case above its entered limit. A Stepper sell does the
+/// same downwards, with H for D (01 'Limits in force', 02 (4)). The step may lead off the grid at
+/// either end, for a sell below zero; the entered limit, which is on the grid, then decides.
+fn stepped(sheet: &Sheet, side: Side, entered: Price, rival: Option<Price>) -> Price {
+    let number = |price: Price| i64::from(price.0);
+    let (lower, upper) = (number(sheet.lower), number(sheet.upper));
+    let (entered, rival) = (number(entered), rival.map(number));
+    let step = i64::from(sheet.step_in_force().0);
+    let stands = match (side, rival) {
+        (Side::Buy, Some(rival)) => entered.min(lower.max(rival + step)),
+        (Side::Buy, None) => entered.min(lower),
+        (Side::Sell, Some(rival)) => entered.max(upper.min(rival - step)),
+        (Side::Sell, None) => entered.max(upper),
+    };
+    Price(u32::try_from(stands).expect("a price of the grid"))
 }

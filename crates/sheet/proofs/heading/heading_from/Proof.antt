@@ -5,12 +5,12 @@ use Rattle.rules.specs.Sheet.{headingFrom}
 use Rattle.sheet.proofs.heading.heading_from.Statement.{statement}
 use Rattle.sheet.proofs.heading.heading_from.Tie as tie
 
-cast-t6 : tie.Need-cast-t6
-cast-t6 c = search needs
+cast-t7 : tie.Need-cast-t7
+cast-t7 c = search needs
 
 returns : tie.Need-returns
 unfolding headingFrom
 returns c = refl
 
 pub heading-from-spec : {M : Type 1} → statement M
-heading-from-spec = tie.close (tie.spec cast-t6 returns)
+heading-from-spec = tie.close (tie.spec cast-t7 returns)

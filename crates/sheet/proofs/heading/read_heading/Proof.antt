@@ -1,17 +1,16 @@
--- `read_heading` meets its contract: each test is a row of the heading's table, in the same order. The five words are those
--- of the sheet, so the heading is the sheet's.
-use mathlib.Core.Bool.{Bool, false}
+-- `read_heading` meets its contract: each test is a row of the heading's table, in the same order. The words read are those of the
+-- sheet, so the heading is the sheet's; the rows passed so far are the first of the table, and the next row stops behind them or joins them.
+use mathlib.Core.Bool.{Bool}
 use mathlib.Core.List.{List}
 use mathlib.Core.Path.{_≡_, ap}
 use Prim.Native.Nat.{ℕ}
-use lib.Dec.{ltb}
-use lib.ListN.{length}
+use lib.ListN.{length, take}
 use borrow.Author.Needs.{needs}
-use Rattle.rules.specs.Sheet.{headingWords, headingOf, headingChecks}
-use Rattle.rules.proofs.Downwards.{Clear, here, there, passed, nothing-left, says-nothing, says-refused}
+use Rattle.rules.specs.Sheet.{headingOf, headingChecks}
+use Rattle.rules.proofs.Downwards.{Clear, here, passed, nothing-left, clear-append, stops-after, says-nothing, says-refused}
 use Rattle.rules.proofs.Tests.{tests}
-use Rattle.sheet.specs.Steps.{headingWordsOf, wrongKinds, wrongPrices, wrongBand, wrongLength}
-use Rattle.sheet.specs.declared.heading.HeadingWords.{HeadingWords}
+use Rattle.sheet.specs.Steps.{headingWordsOf, stepWordRead, wrongKinds, wrongPrices, wrongBand, wrongStep, wrongLength}
+use Rattle.words.specs.declared.cursor.Step.{Step}
 use Rattle.sheet.proofs.Laws.{headed, said-of}
 use Rattle.sheet.proofs.heading.read_heading.Statement.{statement}
 use Rattle.sheet.proofs.heading.read_heading.Tie as tie
@@ -22,6 +21,9 @@ returns c = says-refused _ (here (search tests))
 
 read-heading-words-requires : tie.Need-read-heading-words-requires
 read-heading-words-requires c κs = search needs
+
+read-step-word-requires : tie.Need-read-step-word-requires
+read-step-word-requires c κs = search needs
 
 heading-from-requires : tie.Need-heading-from-requires
 heading-from-requires c κs = search needs
@@ -35,80 +37,98 @@ wrong-prices-requires c κs = search needs
 wrong-band-requires : tie.Need-wrong-band-requires
 wrong-band-requires c κs = search needs
 
+wrong-step-requires : tie.Need-wrong-step-requires
+wrong-step-requires c κs = search needs
+
 wrong-length-requires : tie.Need-wrong-length-requires
 wrong-length-requires c κs = search needs
 
 -- what was read before the first test, and the rows of the table by what the tests said
 module _ (c : tie.After-wrong-length) where
+  abbrev read : tie.After-heading-from
+  read = c .before .before .before .before .before
+
   abbrev words : List ℕ
-  words = c .before .before .before .before .before .before .before .before .args .words .now
+  words = read .before .before .before .before .before .args .words .now
 
-  five : c .before .before .before .before .before .read-heading-words .result ≡ headingWordsOf words
-  five = c .before .before .before .before .before .read-heading-words .ensures
+  five : read .before .before .read-heading-words .result ≡ headingWordsOf words
+  five = read .before .before .read-heading-words .ensures
 
-  heading : c .before .before .before .before .heading-from .result ≡ headingOf words
-  heading = headed words five (c .before .before .before .before .heading-from .ensures)
+  sixth : read .before .read-step-word .result ≡ stepWordRead words
+  sixth = read .before .read-step-word .ensures
 
-  few : ltb (length words) headingWords ≡ false
-  few = search tests
+  heading : read .heading-from .result ≡ headingOf words
+  heading = headed words five sixth (read .heading-from .ensures)
 
-  kinds : {r : Bool} → c .before .before .before .wrong-kinds .result ≡ r → wrongKinds (headingWordsOf words) ≡ r
-  kinds out = said-of wrongKinds five (c .before .before .before .wrong-kinds .ensures) out
+  kinds : {r : Bool} → c .before .before .before .before .wrong-kinds .result ≡ r → wrongKinds (headingWordsOf words) ≡ r
+  kinds out = said-of wrongKinds five (c .before .before .before .before .wrong-kinds .ensures) out
 
-  prices : {r : Bool} → c .before .before .wrong-prices .result ≡ r → wrongPrices (headingOf words) ≡ r
-  prices out = said-of wrongPrices heading (c .before .before .wrong-prices .ensures) out
+  prices : {r : Bool} → c .before .before .before .wrong-prices .result ≡ r → wrongPrices (headingOf words) ≡ r
+  prices out = said-of wrongPrices heading (c .before .before .before .wrong-prices .ensures) out
 
-  band : {r : Bool} → c .before .wrong-band .result ≡ r → wrongBand (headingOf words) ≡ r
-  band out = said-of wrongBand heading (c .before .wrong-band .ensures) out
+  band : {r : Bool} → c .before .before .wrong-band .result ≡ r → wrongBand (headingOf words) ≡ r
+  band out = said-of wrongBand heading (c .before .before .wrong-band .ensures) out
+
+  step : {r : Bool} → c .before .wrong-step .result ≡ r → wrongStep (stepWordRead words) ≡ r
+  step out = said-of wrongStep sixth (c .before .wrong-step .ensures) out
 
   lengths : {r : Bool} → c .wrong-length .result ≡ r → wrongLength (length words) (headingOf words) ≡ r
   lengths out = said-of (wrongLength (length words)) heading (c .wrong-length .ensures) out
 
+  -- the first k rows do not arise
+  abbrev Passed : ℕ → Type 0
+  Passed k = Clear (take k (headingChecks words))
+
+  one-row : Passed 1
+  unfolding headingChecks
+  one-row = passed (search tests) nothing-left
+
 returns-2 : tie.Need-returns-2
 unfolding headingChecks
-returns-2 c = let d = c .before in says-refused _ (there (few d) (here (kinds d (c .if2 .taken))))
+returns-2 c = says-refused _ (stops-after (one-row (c .before)) (here (kinds (c .before) (c .if2 .taken))))
+
+two-rows : (c : tie.Else2) → Passed (c .before) 2
+unfolding headingChecks
+two-rows c = clear-append (one-row (c .before)) (passed (kinds (c .before) (c .if2 .left)) nothing-left)
 
 returns-3 : tie.Need-returns-3
 unfolding headingChecks
-returns-3 c =
-    let d = c .before .before in
-    says-refused _ (there (few d) (there (kinds d (c .before .if2 .left)) (here (prices d (c .if3 .taken)))))
+returns-3 c = says-refused _ (stops-after (two-rows (c .before)) (here (prices (c .before .before) (c .if3 .taken))))
+
+three-rows : (c : tie.Else3) → Passed (c .before .before) 3
+unfolding headingChecks
+three-rows c = clear-append (two-rows (c .before)) (passed (prices (c .before .before) (c .if3 .left)) nothing-left)
 
 returns-4 : tie.Need-returns-4
 unfolding headingChecks
-returns-4 c =
-    let d = c .before .before .before in
-    says-refused _
-    (there (few d)
-    (there (kinds d (c .before .before .if2 .left))
-    (there (prices d (c .before .if3 .left))
-    (here (band d (c .if4 .taken))))))
+returns-4 c = says-refused _ (stops-after (three-rows (c .before)) (here (band (c .before .before .before) (c .if4 .taken))))
+
+four-rows : (c : tie.Else4) → Passed (c .before .before .before) 4
+unfolding headingChecks
+four-rows c = clear-append (three-rows (c .before)) (passed (band (c .before .before .before) (c .if4 .left)) nothing-left)
 
 returns-5 : tie.Need-returns-5
 unfolding headingChecks
-returns-5 c =
-    let d = c .before .before .before .before in
-    says-refused _
-    (there (few d)
-    (there (kinds d (c .before .before .before .if2 .left))
-    (there (prices d (c .before .before .if3 .left))
-    (there (band d (c .before .if4 .left))
-    (here (lengths d (c .if5 .taken)))))))
+returns-5 c = says-refused _ (stops-after (four-rows (c .before)) (here (step (c .before .before .before .before) (c .if5 .taken))))
 
-clear : (c : tie.Else5) → Clear (headingChecks (words (c .before .before .before .before)))
+five-rows : (c : tie.Else5) → Passed (c .before .before .before .before) 5
 unfolding headingChecks
-clear c =
-    let d = c .before .before .before .before in
-    passed (few d)
-    (passed (kinds d (c .before .before .before .if2 .left))
-    (passed (prices d (c .before .before .if3 .left))
-    (passed (band d (c .before .if4 .left))
-    (passed (lengths d (c .if5 .left)) nothing-left))))
+five-rows c = clear-append (four-rows (c .before)) (passed (step (c .before .before .before .before) (c .if5 .left)) nothing-left)
 
 returns-6 : tie.Need-returns-6
+unfolding headingChecks
 returns-6 c =
-    let d = c .before .before .before .before .before in
-    (says-nothing _ (clear (c .before)), heading d, ap (λ (f : HeadingWords). f .next .at) (five d))
+    says-refused _ (stops-after (five-rows (c .before)) (here (lengths (c .before .before .before .before .before) (c .if6 .taken))))
+
+returns-7 : tie.Need-returns-7
+unfolding headingChecks
+returns-7 c =
+    let left = c .before in
+    let d = left .before .before .before .before .before in (
+      says-nothing _ (clear-append (five-rows (left .before)) (passed (lengths d (left .if6 .left)) nothing-left)),
+      heading d,
+      ap (λ (s : Step). s .next .at) (sixth d),
+    )
 
 pub read-heading-spec : {M : Type 1} → statement M
 read-heading-spec =
@@ -116,13 +136,16 @@ read-heading-spec =
     (tie.spec
     returns
     read-heading-words-requires
+    read-step-word-requires
     heading-from-requires
     wrong-kinds-requires
     wrong-prices-requires
     wrong-band-requires
+    wrong-step-requires
     wrong-length-requires
     returns-2
     returns-3
     returns-4
     returns-5
-    returns-6)
+    returns-6
+    returns-7)
