@@ -23,7 +23,7 @@
  *                  3    last purchase price, in the band or not
  *                  4    I, the indicative price, above D and below H
  *                  5    n
- *                  0    the step, 1 to 1,000, in a sheet of 6 + 3n words; in one of 5 + 3n the step is 1
+ *                  0    the step, in the unit of prices, 1 to 1,000: in a sheet of 6 + 3n words; in one of 5 + 3n it is 1
  *     order   kind 6    a buy, or 7 a sell: the lower 24 bits its limit, in the band or not, or 0 for none, which counts
  *                       as H for a buy and D for a sell; the 4 bits above them its disposition: 0 basic, 1 all-or-none,
  *                       2 Stepper, which always has a limit
@@ -49,8 +49,9 @@
  *                  3    one below it: 0x30000000
  *                  4    one inside it: 0x40000000
  *
- * A Stepper stands the sheet's step ahead of its rivals, the other orders of its side, as far as its own limit lets it: that is
- * its limit in force.
+ * A Stepper goes the sheet's step past the best price at which its rivals, the other orders of its side, have more pieces than
+ * it ignores: a buy above it, but at least to D, a sell below it, but at least down to H. Where they nowhere have, it goes to D
+ * or H. It never goes past its own limit. Where it comes to stand is its limit in force.
  *
  * Answers. Every record begins with `refusal`: 0 where the call answers, else the number of the refusal. Then all numbers
  * of the record that the call would give are 0, and lent lists keep what they held. For refusals 5 to 8 `order` is the
@@ -58,7 +59,7 @@
  * refusals 11, 13 and 14 which word of the list is at fault, counted from 0; else it is 0 and means nothing.
  *
  *      1  a sheet of fewer than 5 words
- *      2  a word of a wrong kind in the heading, the first 5 words
+ *      2  a word of a wrong kind among the first 5
  *      3  a price of the heading that is off the grid, the last purchase price too
  *      4  more than 120 orders, or neither 5 + 3n words nor 6 + 3n
  *      5  a word of a wrong kind in an order
@@ -72,8 +73,8 @@
  *     14  a second of a waiting list that is lower than the one before it
  *     15  D not below I, or I not below H, in a heading whose prices are all on the grid
  *     16  a rate above 10,000, a least or greatest fee above 100,000,000, a least fee above the greatest
- *     17  in a sheet of 6 + 3n words, word 5 (the sixth) not of kind 0 or its value not 1 to 1,000; so also where a sheet without
- *         a step word has one word too many
+ *     17  in a sheet of 6 + 3n words, also for n above 120, a sixth word that is not of kind 0 with a value of 1 to 1,000. So it
+ *         is where a word too many follows the last order of a sheet without a step word
  *
  * The first fault is the answer. They are judged in this order: of the heading 1, 2, 3, 15, 17, 4, each over all its words
  * before the next; then of each order in turn 5 to 8, likewise; then 9 or 16; then of each word of a waiting list in turn

@@ -69,7 +69,7 @@ abbrev pub together : List (List ℕ) → List ℕ
 together [] = []
 together (l ∷ ls) = l ++ together ls
 
--- [12.2] The first five words of a sheet of n orders; the sheet of these orders, plain and with a word between.
+-- [12.2] The first five words of a sheet of n orders; the sheet of these orders, plain and with a given word as its sixth.
 abbrev pub heading : ℕ → List ℕ
 heading n = word 1 90 ∷ word 2 110 ∷ word 3 100 ∷ word 4 100 ∷ word 5 n ∷ []
 
@@ -432,21 +432,24 @@ stepCases =
     ∷ standsBy 5 (sell 5 96 ∷ sell 3 99 ∷ stepperSell 7 92 4 ∷ []) 2 92
     ∷ standsBy 1000 (stepperSell 7 92 0 ∷ []) 0 110
     ∷ standsBy 1000 (stepperSell 7 120 0 ∷ []) 0 120
-    -- the largest step in full; a price that the step would take off the grid, at either end
+    -- two Steppers go by each other's entered limits; rivals that have just what is ignored give no best rival price
+    ∷ standsBy 3 (stepperBuy 7 108 0 ∷ stepperBuy 7 100 0 ∷ []) 0 103
+    ∷ standsBy 3 (buy 5 104 ∷ stepperBuy 7 108 5 ∷ []) 1 90
+    -- the largest step in full; the ends of the grid, the last price passed, the first just reached and then passed
     ∷ standsBy 1000 (buy 5 104 ∷ stepperBuy 7 2000 4 ∷ []) 1 1104
     ∷ standsBy 1000 (buy 5 999001 ∷ stepperBuy 7 1000000 4 ∷ []) 1 1000000
     ∷ standsBy 4 (sell 5 5 ∷ stepperSell 7 1 4 ∷ []) 1 1
     ∷ standsBy 5 (sell 5 5 ∷ stepperSell 7 2 4 ∷ []) 1 2
     ∷ standsBy 1000 (sell 5 5 ∷ stepperSell 7 3 4 ∷ []) 1 3
-    -- not before the bound: a rival outside the band, from which the step does not reach it, and from which it does
+    -- rivals outside the band: by a short step the Stepper stands at the bound, by a long one past it
     ∷ standsBy 3 (buy 5 70 ∷ stepperBuy 7 108 4 ∷ []) 1 90
     ∷ standsBy 25 (buy 5 70 ∷ stepperBuy 7 108 4 ∷ []) 1 95
     ∷ standsBy 3 (sell 5 130 ∷ stepperSell 7 92 4 ∷ []) 1 110
     ∷ standsBy 25 (sell 5 130 ∷ stepperSell 7 92 4 ∷ []) 1 105
-    -- an opening: the Stepper stands at 105, and comes first
-    ∷ case (opening (sheetWith (word 0 5) (buy 3 100 ∷ stepperBuy 5 108 0 ∷ sell 4 95 ∷ [])) 29)
-    (gives (together (run 0 105 105 4 (0 ∷ 4 ∷ 4 ∷ []) ∷ run 2 105 0 0 (0 ∷ 0 ∷ 0 ∷ []) ∷ []) ++ (0xf0000002 ∷ [])))
-    ∷ case (curvesAt (sheetWith (word 0 5) (buy 3 100 ∷ stepperBuy 5 108 0 ∷ sell 4 95 ∷ [])) 103) (gives (5 ∷ 4 ∷ 4 ∷ []))
+    -- P9 with a sell: by a step of 4 the Stepper stands at 105, before order 0, and gets the pieces; by 1 order 0 would
+    ∷ case (opening (sheetWith (word 0 4) (buy 5 104 ∷ buy 3 101 ∷ stepperBuy 4 108 5 ∷ sell 4 95 ∷ [])) 41)
+    (gives (together (run 0 104 104 4 (0 ∷ 0 ∷ 4 ∷ 4 ∷ []) ∷ run 2 104 0 0 (0 ∷ 0 ∷ 0 ∷ 0 ∷ []) ∷ []) ++ (0xf0000002 ∷ [])))
+    ∷ case (curvesAt (sheetWith (word 0 4) (buy 5 104 ∷ buy 3 101 ∷ stepperBuy 4 108 5 ∷ sell 4 95 ∷ [])) 105) (gives (4 ∷ 4 ∷ 4 ∷ []))
     -- both ends of the range, and beyond them; a kind other than 0
     ∷ case (check (sheetWith (word 0 1) [])) (gives [])
     ∷ case (check (sheetWith (word 0 1000) (buy 4 95 ∷ []))) (gives [])
@@ -459,7 +462,8 @@ stepCases =
     ∷ case (check (0x1000005a ∷ 0x2000006e ∷ 0x30000064 ∷ 0x4000006e ∷ 0x50000000 ∷ 0 ∷ [])) (refuses 15 0)
     ∷ case (check (heading 121 ++ (word 0 0 ∷ replicate 363 0))) (refuses 17 0)
     ∷ case (check (heading 121 ++ (word 0 1 ∷ replicate 363 0))) (refuses 4 0)
-    -- two orders behind a step word, the second at fault; without its last word the sheet is plain, and order 0 begins with the step word
+    -- two orders behind a step word, the second at fault; a step word and one order that lacks its last word, which is as long as a
+    -- plain sheet, so that order 0 begins with the step word
     ∷ case (check (sheetWith (word 0 7) (buy 4 95 ∷ sell 0 95 ∷ []))) (refuses 7 1)
     ∷ case (check (heading 1 ++ (word 0 7 ∷ word 6 95 ∷ word 8 4 ∷ []))) (refuses 5 0)
     ∷ []

@@ -23,12 +23,12 @@ use Rattle.rules.specs.declared.Heading.{Heading}
 use Rattle.rules.specs.declared.Order.{Order}
 use Rattle.rules.specs.declared.OrderFault.{OrderFault}
 use Rattle.rules.specs.declared.Refusal.{Refusal}
+use Rattle.rules.specs.declared.Word.{Word}
 use Rattle.rules.specs.declared.Refusal.the-variants.{Order as OrderRefusal}
 use Rattle.rules.specs.Limits.{noOrder}
 use Rattle.sheet.specs.Reading.{headingRead, placesRead, ReadsAs}
 use Rattle.sheet.specs.Steps.{headingWordsOf, stepWordRead, orderWordsAt, refusedReading, HeadingReadsAs, OrderCheckedAs, OrderReadsAs}
 use Rattle.words.specs.declared.cursor.Cursor.{Cursor}
-use Rattle.words.specs.declared.cursor.Step.{Step}
 use Rattle.sheet.specs.declared.heading.HeadingRead.{HeadingRead}
 use Rattle.sheet.specs.declared.heading.HeadingRead.the-variants.{Passed as PassedHeading, Refused as RefusedHeading}
 use Rattle.sheet.specs.declared.heading.HeadingWords.{HeadingWords}
@@ -66,8 +66,8 @@ module _ (ws : List ℕ) {f : HeadingWords} (e : f ≡ headingWordsOf ws) where
   step-not-said five = let plain-heading : layoutOf ws .heading ≡ 5 = rw e at five in rw (e, plain-heading)
 
 -- the heading made of the sheet's words is the sheet's
-pub headed : (ws : List ℕ) {f : HeadingWords} {s : Step} {h : Heading} → f ≡ headingWordsOf ws → s ≡ stepWordRead ws
-    → h ≡ headingFrom (f .lower) (f .upper) (f .last) (f .indicative) (f .count) (s .word) → h ≡ headingOf ws
+pub headed : (ws : List ℕ) {f : HeadingWords} {s : Word} {h : Heading} → f ≡ headingWordsOf ws → s ≡ stepWord ws
+    → h ≡ headingFrom (f .lower) (f .upper) (f .last) (f .indicative) (f .count) s → h ≡ headingOf ws
 unfolding headingOf
 headed ws e d made = rw (e, d) at made
 

@@ -10,6 +10,7 @@ use Rattle.rules.specs.Words.{wordAt}
 use Rattle.rules.specs.declared.Checked.the-variants.{Refused as RefusedSheet}
 use Rattle.rules.specs.declared.Heading.{Heading}
 use Rattle.rules.specs.declared.Refusal.{Refusal}
+use Rattle.rules.specs.declared.Word.{Word}
 use Rattle.rules.specs.Limits.{noOrder}
 use Rattle.sheet.specs.Reading.{noHeading}
 use Rattle.sheet.specs.declared.Reading.{Reading}
@@ -52,8 +53,8 @@ wrongPrices h = not (pricesOnGrid h)
 abbrev pub wrongBand : Heading → Bool
 wrongBand h = not (bandEncloses h)
 
-abbrev pub wrongStep : Step → Bool
-wrongStep f = not (stepAllowed (f .word))
+abbrev pub wrongStep : Word → Bool
+wrongStep f = not (stepAllowed f)
 
 abbrev pub wrongLength : ℕ → Heading → Bool
 wrongLength words h = not (lengthFits (h .count) words)

@@ -93,8 +93,8 @@ fn wrong_kinds(five: HeadingWords) -> bool
         & (five.count.kind == 5))
 }
 
-fn heading_from(five: HeadingWords, sixth: Step) -> Heading
-    ensures { λ r. ⌜ r ≡ headingFrom (five .lower) (five .upper) (five .last) (five .indicative) (five .count) (sixth .word) ⌝ }
+fn heading_from(five: HeadingWords, sixth: Word) -> Heading
+    ensures { λ r. ⌜ r ≡ headingFrom (five .lower) (five .upper) (five .last) (five .indicative) (five .count) sixth ⌝ }
 {
     Heading {
         lower: Price(five.lower.value),
@@ -102,7 +102,7 @@ fn heading_from(five: HeadingWords, sixth: Step) -> Heading
         last: Price(five.last.value),
         indicative: Price(five.indicative.value),
         count: five.count.value as usize,
-        step: QuotationStep(sixth.word.value),
+        step: QuotationStep(sixth.value),
     }
 }
 
@@ -124,11 +124,10 @@ fn wrong_band(heading: Heading) -> bool
 }
 
 // Refusal 17, by clause 3.4a.
-fn wrong_step(sixth: Step) -> bool
+fn wrong_step(sixth: Word) -> bool
     ensures { λ r. ⌜ r ≡ wrongStep sixth ⌝ }
 {
-    let step = sixth.word.value;
-    !((sixth.word.kind == 0) & (1 <= step) & (step <= 1000))
+    !((sixth.kind == 0) & (1 <= sixth.value) & (sixth.value <= 1000))
 }
 
 // Refusal 4, by clause 3.5.
@@ -151,11 +150,11 @@ pub(crate) fn read_heading(words: &[u32]) -> HeadingRead
     }
     let five = read_heading_words(words);
     let sixth = read_step_word(words, five);
-    let heading = heading_from(five, sixth);
+    let heading = heading_from(five, sixth.word);
     let kinds = wrong_kinds(five);
     let prices = wrong_prices(heading);
     let band = wrong_band(heading);
-    let step = wrong_step(sixth);
+    let step = wrong_step(sixth.word);
     let length = wrong_length(heading, words.len());
     if kinds {
         return HeadingRead::Refused(Refusal::HeadingKind);

@@ -6,7 +6,7 @@ use mathlib.Core.Path.{_≡_, ap}
 use Prim.Native.Nat.{ℕ}
 use lib.ListN.{length, take}
 use borrow.Author.Needs.{needs}
-use Rattle.rules.specs.Sheet.{headingOf, headingChecks}
+use Rattle.rules.specs.Sheet.{stepWord, headingOf, headingChecks}
 use Rattle.rules.proofs.Downwards.{Clear, here, passed, nothing-left, clear-append, stops-after, says-nothing, says-refused}
 use Rattle.rules.proofs.Tests.{tests}
 use Rattle.sheet.specs.Steps.{headingWordsOf, stepWordRead, wrongKinds, wrongPrices, wrongBand, wrongStep, wrongLength}
@@ -57,8 +57,11 @@ module _ (c : tie.After-wrong-length) where
   sixth : read .before .read-step-word .result ≡ stepWordRead words
   sixth = read .before .read-step-word .ensures
 
+  said : read .before .read-step-word .result .word ≡ stepWord words
+  said = ap (λ (s : Step). s .word) sixth
+
   heading : read .heading-from .result ≡ headingOf words
-  heading = headed words five sixth (read .heading-from .ensures)
+  heading = headed words five said (read .heading-from .ensures)
 
   kinds : {r : Bool} → c .before .before .before .before .wrong-kinds .result ≡ r → wrongKinds (headingWordsOf words) ≡ r
   kinds out = said-of wrongKinds five (c .before .before .before .before .wrong-kinds .ensures) out
@@ -69,8 +72,8 @@ module _ (c : tie.After-wrong-length) where
   band : {r : Bool} → c .before .before .wrong-band .result ≡ r → wrongBand (headingOf words) ≡ r
   band out = said-of wrongBand heading (c .before .before .wrong-band .ensures) out
 
-  step : {r : Bool} → c .before .wrong-step .result ≡ r → wrongStep (stepWordRead words) ≡ r
-  step out = said-of wrongStep sixth (c .before .wrong-step .ensures) out
+  step : {r : Bool} → c .before .wrong-step .result ≡ r → wrongStep (stepWord words) ≡ r
+  step out = said-of wrongStep said (c .before .wrong-step .ensures) out
 
   lengths : {r : Bool} → c .wrong-length .result ≡ r → wrongLength (length words) (headingOf words) ≡ r
   lengths out = said-of (wrongLength (length words)) heading (c .wrong-length .ensures) out
