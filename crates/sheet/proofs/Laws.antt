@@ -38,7 +38,7 @@ use Rattle.sheet.specs.declared.orders.OrderRead.{OrderRead}
 use Rattle.sheet.specs.declared.orders.OrderRead.the-variants.{Passed as PassedOrder, Faulty as FaultyOrder}
 use Rattle.sheet.specs.declared.orders.OrderWords.{OrderWords}
 
--- ---- the heading
+-- ---- the layout and the heading
 
 -- in either layout an order has three words
 pub place-in : (n words k : ℕ) → orderPlace (layoutFor n words) k ≡ layoutFor n words .heading + 3 * k
