@@ -10,7 +10,7 @@
  * promises are in crates/boxashewu/src/lib.rt, the calls one by one in docs/CALLS.md, the rules in docs/RULES.md, and what
  * its terms mean in docs/READING.md.
  *
- * Numbers. A price counts steps of ten hellers, tenths of a crown; the grid is the prices from 1 to 1,000,000. A band is
+ * Numbers. A price counts tens of hellers, tenths of a crown; the grid is the prices from 1 to 1,000,000. A band is
  * two prices of the grid, the lower bound D below the upper bound H, and both belong to it. An order has a quantity of 1
  * to 1,000,000 pieces; orders are numbered from 0, as they stand on the sheet. Fees are in hellers, a hundred to a crown.
  *
@@ -49,9 +49,9 @@
  *                  3    one below it: 0x30000000
  *                  4    one inside it: 0x40000000
  *
- * A Stepper goes the sheet's step past the best price at which its rivals, the other orders of its side, have more pieces than
- * it ignores: a buy above it, but at least to D, a sell below it, but at least down to H. Where they nowhere have, it goes to D
- * or H. It never goes past its own limit. Where it comes to stand is its limit in force.
+ * A Stepper goes by the best price at which its rivals, the other orders of its side, have more pieces than it ignores: a buy
+ * to that price plus the step, but not below D, a sell to that price less the step, but not above H. Where they nowhere have,
+ * a buy goes to D and a sell to H. None goes past its own limit. Where it comes to stand is its limit in force.
  *
  * Answers. Every record begins with `refusal`: 0 where the call answers, else the number of the refusal. Then all numbers
  * of the record that the call would give are 0, and lent lists keep what they held. For refusals 5 to 8 `order` is the
@@ -74,7 +74,7 @@
  *     15  D not below I, or I not below H, in a heading whose prices are all on the grid
  *     16  a rate above 10,000, a least or greatest fee above 100,000,000, a least fee above the greatest
  *     17  in a sheet of 6 + 3n words, also for n above 120, a sixth word that is not of kind 0 with a value of 1 to 1,000. So it
- *         is where a word too many follows the last order of a sheet without a step word
+ *         is where a word too many follows the last order of a sheet that was meant to have no step word
  *
  * The first fault is the answer. They are judged in this order: of the heading 1, 2, 3, 15, 17, 4, each over all its words
  * before the next; then of each order in turn 5 to 8, likewise; then 9 or 16; then of each word of a waiting list in turn

@@ -416,7 +416,7 @@ charges =
 -- [12.4c] Cases of the step.
 unfoldable pub stepCases : List Case
 stepCases =
-    -- P9 by steps of 1, as if the sheet said nothing, and of 3; by one of 5 or 1,000 only up to the Stepper's limit
+    -- P9 by steps of 1, as if the sheet said nothing, and of 3; by one of 5, where it ignores 4, and of 1,000 up to its limit
     standsBy 1 (buy 5 104 ∷ buy 3 101 ∷ stepperBuy 7 108 5 ∷ []) 2 102
     ∷ standsBy 1 (buy 5 104 ∷ buy 3 101 ∷ stepperBuy 7 108 4 ∷ []) 2 105
     ∷ standsBy 3 (buy 5 104 ∷ buy 3 101 ∷ stepperBuy 7 108 5 ∷ []) 2 104
@@ -441,7 +441,7 @@ stepCases =
     ∷ standsBy 4 (sell 5 5 ∷ stepperSell 7 1 4 ∷ []) 1 1
     ∷ standsBy 5 (sell 5 5 ∷ stepperSell 7 2 4 ∷ []) 1 2
     ∷ standsBy 1000 (sell 5 5 ∷ stepperSell 7 3 4 ∷ []) 1 3
-    -- rivals outside the band: by a short step the Stepper stands at the bound, by a long one past it
+    -- rivals outside the band: by a short step the Stepper stands at the bound, by a long one inside the band
     ∷ standsBy 3 (buy 5 70 ∷ stepperBuy 7 108 4 ∷ []) 1 90
     ∷ standsBy 25 (buy 5 70 ∷ stepperBuy 7 108 4 ∷ []) 1 95
     ∷ standsBy 3 (sell 5 130 ∷ stepperSell 7 92 4 ∷ []) 1 110

@@ -99,10 +99,10 @@ rivalPieces h orders remaining k p = piecesAt (others k) (filed orders k .side) 
 abbrev pub bestRival : Scan ℕ → Side → ℕ → Option ℕ
 bestRival rivals s ignored = rivals .best s (λ pieces. ltb ignored pieces)
 
--- [4.6] A buying Stepper goes the sheet's step above its best rival price but at least to D, and to D where there is no such
--- price; at most to its entered limit. A selling one goes the step below its best rival price but at most to H, and to H where
--- there is no such price; at least to its entered limit. Where the step is larger than the price the difference is 0, and
--- the entered limit counts.
+-- [4.6] A buying Stepper goes to its best rival price plus the sheet's step, but not below D, and to D where there is no such
+-- price; never above its entered limit. A selling one goes to its best rival price less the step, but not above H, and to H
+-- where there is no such price; never below its entered limit. Where the step is larger than the price the difference is 0,
+-- and the entered limit counts.
 unfoldable pub stepped : Heading → Side → ℕ → Option ℕ → ℕ
 stepped h Buy limit (some rival) = min limit (max (D h) (rival + h .step .0))
 stepped h Buy limit none = min limit (D h)

@@ -35,7 +35,8 @@ plain = record { heading = 5; order = 3 }
 abbrev pub withStep : Layout
 withStep = record { heading = 6; order = 3 }
 
--- [3.1] The length alone tells which it is: with a step word, if it is the length of such a sheet of n orders.
+-- [3.1] The length alone tells which it is: with a step word, if it is the length of such a sheet of n orders; a sheet of any
+-- other length is judged as plain.
 unfoldable pub layoutFor : ℕ → ℕ → Layout
 layoutFor n words = cond (eqb words (orderPlace withStep n)) withStep plain
 

@@ -3,13 +3,13 @@ ghost use mathlib.Core.Path.{_≡_};
 ghost use Rattle.rules.specs.Grid.{onGrid};
 ghost use Rattle.rules.specs.Answers.{faultNumber, waitingFaultNumber, refusalNumber, refusalPlace};
 
-// Clause 1.1: a price, in steps of ten hellers.
+// Clause 1.1: a price, in tens of hellers.
 pub struct Price(pub u32);
 
 // Clause 1.1: a number of pieces.
 pub struct Pieces(pub u32);
 
-// Clause 1.1: how many price steps a Stepper keeps from its best rival. It is the distance of two prices, and no price.
+// Clause 1.1: how far a Stepper goes past its best rival price, in tens of hellers too. It is a distance, and no price.
 pub struct QuotationStep(pub u32);
 
 // The pieces of several orders together. In 64 bits there is room for any 120 quantities.
