@@ -10,7 +10,7 @@
 #include <string.h>
 #include <sys/mman.h>
 
-enum { LINE_BYTES = 16384, MOST_WORDS = 2000, MOST_NUMBERS = 5, STACK = 1 << 20, PAINT = 0xa5 };
+enum { LINE_BYTES = 160000, MOST_WORDS = 16384, MOST_NUMBERS = 5, STACK = 1 << 20, PAINT = 0xa5 };
 
 static char line[LINE_BYTES];
 static uint32_t words[MOST_WORDS];
@@ -76,6 +76,24 @@ static void print_fees(struct auction_space reply) {
     puts("");
 }
 
+/* A round of the result that stands behind the first `count` words, which are the sheet. */
+static void print_round(size_t count, size_t length, size_t round) {
+    const uint32_t *stored = words + count;
+    struct auction_stored opened = auction_stored_opens(words, count, stored, length);
+    struct auction_round reply = auction_stored_round(words, count, stored, length, round);
+    if (opened.different != reply.different || opened.place != reply.place) {
+        puts("one call finds another difference than the other");
+    } else if (reply.different) {
+        printf("different %zu\n", reply.place);
+    } else if (answers(reply.refusal, reply.order)) {
+        printf("%" PRIu32 " %" PRIu32 " %" PRIu32 " %" PRIu32, reply.situation, reply.price, reply.purchase, reply.total);
+        for (size_t k = 0; k < reply.count; k++) {
+            printf(" %" PRIu32, stored[reply.fills + k] & 0xfffffff);
+        }
+        puts("");
+    }
+}
+
 static void print_band(struct auction_band reply) {
     if (answers(reply.refusal, reply.order)) {
         printf("%" PRIu32 " %" PRIu32 "\n", reply.lower, reply.upper);
@@ -123,11 +141,13 @@ static int answer_on_sheet(const char *call) {
         print_sheet(auction_check(words, read_words()));
         return 1;
     }
-    read_numbers(strcmp(call, "fees") == 0 ? 5 : 1);
+    read_numbers(strcmp(call, "fees") == 0 ? 5 : strcmp(call, "view") == 0 ? 2 : 1);
     size_t count = read_words();
     if (strcmp(call, "fees") == 0) {
         print_fees(auction_opening_fees(words, count, narrow(numbers[0]), narrow(numbers[1]), narrow(numbers[2]), space,
                                         room(numbers[3]), fees, places(numbers[4])));
+    } else if (strcmp(call, "view") == 0) {
+        print_round((size_t)numbers[1], count - (size_t)numbers[1], (size_t)numbers[0]);
     } else if (strcmp(call, "stepper") == 0) {
         print_price(auction_stepper_limit(words, count, (size_t)numbers[0]));
     } else if (strcmp(call, "curves") == 0) {

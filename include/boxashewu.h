@@ -76,17 +76,20 @@
  *     17  in a sheet of 6 + 3n words, also for n above 120, a sixth word that is not of kind 0 with a value of 1 to 1,000. So it
  *         is where a word too many follows the last order of a sheet that was meant to have no step word
  *
+ * That a stored result differs is no refusal: its records have `different` for it, and all their other numbers but `place` are
+ * 0 then.
+ *
  * The first fault is the answer. They are judged in this order: of the heading 1, 2, 3, 15, 17, 4, each over all its words
  * before the next; then of each order in turn 5 to 8, likewise; then 9 or 16; then of each word of a waiting list in turn
  * 13, 14, 11; last 10, or 11 where a band is all that is asked for. Those of heading and orders, 1 to 8, 15 and 17, are
- * the refusals of a sheet. (12 is of the opening program alone, for bytes that are no list of words.)
+ * the refusals of a sheet. (12 is of the programs alone, for bytes that are no list of words.)
  *
  * What a caller owes. No call can check these, and if one of them fails, nothing is promised:
  *
- * - `words` points to `count` words and `space` to `room` words, both aligned to 4 bytes, and `fees` to `places` numbers of 64
- *   bits, aligned to 8. None is ever null: for a list of nothing, too, any aligned pointer will do that is not null.
- * - `words`, `space` and `fees` do not overlap.
- * - While a call runs no other thread writes `words`, and none reads or writes `space` or `fees`. Apart from that calls may
+ * - `words` and `sheet` point to `count` words, `stored` to `length` words and `space` to `room` words, all aligned to 4 bytes,
+ *   and `fees` to `places` numbers of 64 bits, aligned to 8. None is ever null: for a list of nothing, too, any aligned pointer will do that is not null.
+ * - `words`, `space` and `fees` do not overlap; `sheet` and `stored` may.
+ * - While a call runs no other thread writes `words`, `sheet` or `stored`, and none reads or writes `space` or `fees`. Apart from that calls may
  *   run in any number of threads at once: the library keeps nothing between two calls.
  * - There are AUCTION_STACK_BYTES of stack left for the call.
  * - Numbers arrive as they were meant: C and C++ turn one that is too wide or negative into another without a word. Compile
@@ -114,7 +117,7 @@ extern "C" {
 #define AUCTION_FEE_PLACES 120
 
 /* What a call may take of the stack. The most that was measured is a third of it. */
-#define AUCTION_STACK_BYTES 65536
+#define AUCTION_STACK_BYTES 262144
 
 struct auction_sheet {
     uint32_t refusal;
@@ -159,6 +162,26 @@ struct auction_waiting {
     uint32_t due;
 };
 
+struct auction_stored {
+    uint32_t refusal;
+    size_t order;
+    uint32_t different;
+    size_t place;
+};
+
+struct auction_round {
+    uint32_t refusal;
+    size_t order;
+    uint32_t different;
+    size_t place;
+    uint32_t situation;
+    uint32_t price;
+    uint32_t purchase;
+    uint32_t total;
+    size_t fills;
+    size_t count;
+};
+
 /* Checks a sheet. Refusals: those of a sheet. */
 struct auction_sheet auction_check(const uint32_t *words, size_t count);
 
@@ -191,6 +214,23 @@ struct auction_space auction_opening(const uint32_t *words, size_t count, uint32
  * `greatest`; 10 if `room` is less than an opening asks for or `places` is less than n. */
 struct auction_space auction_opening_fees(const uint32_t *words, size_t count, uint32_t rate, uint32_t least,
                                           uint32_t greatest, uint32_t *space, size_t room, uint64_t *fees, size_t places);
+
+/* Whether a stored result opens beside its sheet: only if the `length` words at `stored` are exactly those that
+ * auction_opening writes for this sheet. It opens where `refusal` and `different` are both 0. Where `different` is 1, which is no
+ * refusal, `place` is where they first differ, counted from 0, or the length of the shorter list if it is the beginning of the
+ * other; else `place` is 0 and means nothing. `stored` may be any list of words, of any length. Refusals: those of a sheet,
+ * before the stored words are looked at. */
+struct auction_stored auction_stored_opens(const uint32_t *sheet, size_t count, const uint32_t *stored, size_t length);
+
+/* One round of a stored result, by its number, counted from 0, where the result opens beside its sheet: situation, auction
+ * price, purchase price and total, as the words of this round say them; then `fills`, the place in `stored` of its first fill
+ * word, and `count`, how many fill words it has, one for each order: the fill of order k is in the lower 28 bits of
+ * stored[fills + k]. Where the result does not open `different` and `place` are as above. Refusals: those of a sheet; 9, where
+ * the result opens, if the number is past the last round. Each call runs the opening again; whoever has seen by
+ * auction_stored_opens that a result opens can read it without: round r begins at stored[r x (n + 4)], and the lower 16 bits
+ * of the last word count the rounds. */
+struct auction_round auction_stored_round(const uint32_t *sheet, size_t count, const uint32_t *stored, size_t length,
+                                          size_t round);
 
 /* The indicative price. If any pieces were traded it is the closing purchase price as it is; else the last auction price,
  * moved to the nearer bound if it is outside the band. 9 if the bounds are no band, or the price that is used is off the grid

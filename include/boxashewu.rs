@@ -26,7 +26,7 @@ pub const OPENING_WORDS: usize = 15005;
 pub const FEE_PLACES: usize = 120;
 
 /// What a call may take of the stack. The most that was measured is a third of it.
-pub const STACK_BYTES: usize = 65536;
+pub const STACK_BYTES: usize = 262144;
 
 /// Which fault it is, by the header's numbers, and for 5 to 8 the order at fault, counted from 0.
 #[derive(Clone, Copy, Debug, PartialEq, Eq)]
@@ -99,6 +99,38 @@ pub struct Waiting {
     pub due: u32,
 }
 
+/// Why a stored result is not read: the sheet is refused or, where the result opens, there is no such round; or the stored words are not
+/// those of the sheet's opening, and differ first at this place, counted from 0.
+#[derive(Clone, Copy, Debug, PartialEq, Eq)]
+pub enum NotRead {
+    Refused(Refusal),
+    Different(usize),
+}
+
+impl fmt::Display for NotRead {
+    /// As the program `calls` prints it.
+    fn fmt(&self, out: &mut fmt::Formatter) -> fmt::Result {
+        match self {
+            NotRead::Refused(refusal) => refusal.fmt(out),
+            NotRead::Different(place) => write!(out, "different {place}"),
+        }
+    }
+}
+
+impl std::error::Error for NotRead {}
+
+/// A round of a stored result. Its fills are still words, and still a part of the stored list: the pieces of order k are the lower 28
+/// bits of word k.
+#[derive(Clone, Copy, Debug, PartialEq, Eq)]
+pub struct StoredRound<'a> {
+    pub situation: u32,
+    pub price: u32,
+    /// 0 if nothing traded.
+    pub purchase: u32,
+    pub total: u32,
+    pub fills: &'a [u32],
+}
+
 /// The records and functions as the library has them.
 pub mod raw {
     #[repr(C)]
@@ -156,6 +188,30 @@ pub mod raw {
         pub due: u32,
     }
 
+    #[repr(C)]
+    #[derive(Clone, Copy, Debug, PartialEq, Eq)]
+    pub struct StoredReply {
+        pub refusal: u32,
+        pub order: usize,
+        pub different: u32,
+        pub place: usize,
+    }
+
+    #[repr(C)]
+    #[derive(Clone, Copy, Debug, PartialEq, Eq)]
+    pub struct RoundReply {
+        pub refusal: u32,
+        pub order: usize,
+        pub different: u32,
+        pub place: usize,
+        pub situation: u32,
+        pub price: u32,
+        pub purchase: u32,
+        pub total: u32,
+        pub fills: usize,
+        pub count: usize,
+    }
+
     #[link(name = "boxashewu", kind = "static")]
     unsafe extern "C" {
         pub fn auction_check(words: *const u32, count: usize) -> SheetReply;
@@ -184,6 +240,19 @@ pub mod raw {
             fees: *mut u64,
             places: usize,
         ) -> SpaceReply;
+        pub fn auction_stored_opens(
+            sheet: *const u32,
+            count: usize,
+            stored: *const u32,
+            length: usize,
+        ) -> StoredReply;
+        pub fn auction_stored_round(
+            sheet: *const u32,
+            count: usize,
+            stored: *const u32,
+            length: usize,
+            round: usize,
+        ) -> RoundReply;
         pub fn auction_indicative_price(
             lower: u32,
             upper: u32,
@@ -283,6 +352,42 @@ pub fn opening_fees<'a, 'b>(
     answered(reply.refusal, reply.order, ())?;
     let orders = (words[4] & 0xfff_ffff) as usize;
     Ok((&space[..reply.count], &fees[..orders]))
+}
+
+fn read<T>(refusal: u32, order: usize, different: u32, place: usize, value: T) -> Result<T, NotRead> {
+    match different {
+        0 => answered(refusal, order, value).map_err(NotRead::Refused),
+        _ => Err(NotRead::Different(place)),
+    }
+}
+
+/// Whether a stored result opens beside its sheet: only if its words are exactly those that `opening` writes for this sheet. Else where
+/// they first differ, or the length of the shorter list if it is the beginning of the other. Refusals: those of a sheet.
+pub fn stored_opens(sheet: &[u32], stored: &[u32]) -> Result<(), NotRead> {
+    let reply = unsafe {
+        raw::auction_stored_opens(sheet.as_ptr(), sheet.len(), stored.as_ptr(), stored.len())
+    };
+    read(reply.refusal, reply.order, reply.different, reply.place, ())
+}
+
+/// A round of a stored result, counted from 0, where the result opens beside its sheet. Refusals: those of a sheet; 9 for a number past
+/// the last round. Each call runs the opening again.
+pub fn stored_round<'a>(
+    sheet: &[u32],
+    stored: &'a [u32],
+    round: usize,
+) -> Result<StoredRound<'a>, NotRead> {
+    let reply = unsafe {
+        raw::auction_stored_round(sheet.as_ptr(), sheet.len(), stored.as_ptr(), stored.len(), round)
+    };
+    read(reply.refusal, reply.order, reply.different, reply.place, ())?;
+    Ok(StoredRound {
+        situation: reply.situation,
+        price: reply.price,
+        purchase: reply.purchase,
+        total: reply.total,
+        fills: &stored[reply.fills..][..reply.count],
+    })
 }
 
 /// The closing purchase price as it is if any pieces were traded, else the last auction price moved into the band. 9 if the bounds

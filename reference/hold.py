@@ -4,9 +4,9 @@
     reference/hold.py [COUNT] [SEED]
 
 Random calls are made and answered by the reference implementation: COUNT whole openings, and a third as many of each other
-call on a sheet, of the band's calls together and of the waiting clock. A scratch crate outside the project then states, for each, that the rules
-answer the same, and of an opening with fees also that the fees on its words are the same; the checker proves it. An answer that differs
-leaves the scratch crate unproved.
+call on a sheet, of the band's calls together, of the waiting clock and of stored results. A scratch crate outside the project then states,
+for each, that the rules answer the same, of an opening with fees also that the fees on its words are the same, and of a stored round what its
+words say; the checker proves it. An answer that differs leaves the scratch crate unproved.
 """
 import os
 import re
@@ -20,6 +20,8 @@ PROJECT = os.path.dirname(os.path.dirname(os.path.abspath(__file__)))
 CALLS_A_FILE = 10
 # What the rules answer is computed by the checker: beyond some twenty orders that takes too many steps.
 MOST_WORDS = 6 + 3 * 20
+MOST_STORED = 500
+MOST_PIECES = 3000
 
 
 def reference(*words, text=None):
@@ -78,8 +80,28 @@ def document(line, answer):
     return f"gives ({spelled(said)})"
 
 
+def stored_rows(line, answer):
+    """What is stated of a line `view`: whether the result opens, what the round gives, and where it gives numbers, all that its words say."""
+    _, round_number, count, *listed = line.split()
+    lists = f"({words(listed[:int(count)])}) ({words(listed[int(count):])})"
+    said = answer.split()
+    whole = part = f"differs {said[1]}" if said[0] == "different" else f"answers (refuses {' '.join(said[1:])})"
+    if said[0].isdigit() or said[:2] == ["refused", "9"]:
+        whole = "answers (gives [])"
+    rows = [f"storedCase (storedRound {lists} {round_number}) ({part})"]
+    if said[0].isdigit():
+        orders = len(said) - 4
+        place = int(round_number) * (orders + 4) + 4
+        rows = [f"storedCase (storedRound {lists} {round_number}) (answers (gives ({numbers([*said[:4], place, orders])})))",
+                f"roundSaid {lists} {round_number} ≡ record {{ situation = {said[0]}; price = {said[1]}; purchase = {said[2]}; "
+                f"total = {said[3]}; fills = {numbers(said[4:])} }}"]
+    return [f"storedCase (openStored {lists}) ({whole})", *rows]
+
+
 def rows_of(line, answer):
     """What is stated of a line: its answer, and where fees are given, that they are those on the words."""
+    if line.startswith("view"):
+        return stored_rows(line, answer)
     rows = [f"case ({call(line)}) ({document(line, answer)})"]
     if " fees" in answer:
         parts, (given, fees) = line.split()[1:], answer.split(" fees")
@@ -92,16 +114,21 @@ def vectors(rows):
     lines, names, charged = imports_and_names()
     text = [
         "use mathlib.Core.List.{List, [], _∷_}",
-        "use mathlib.Core.Path.{refl}",
+        "use mathlib.Core.Path.{_≡_, refl}",
         *lines,
-        "use Rattle.rules.proofs.Cases.{sameNumbers, same, allSame, all-same}",
-        "use Rattle.rules.specs.Cases.{Case, case, AllHold, Charge, charge, AllCharge}",
+        "use Rattle.rules.proofs.Cases.{sameNumbers, same, allSame, all-same, sameStored, allStored, all-stored}",
+        "use Rattle.rules.specs.Cases.{Case, case, AllHold, Charge, charge, AllCharge, StoredCase, storedCase, AllOpen}",
+        "use Rattle.rules.specs.Stored.{openStored, storedRound}",
         "use Rattle.rules.specs.Calls.{check, stepperLimit, curvesAt, firstRound, opening, openingFees, indicative, next, widen, waiting}",
         "use Rattle.rules.specs.Fees.{tariffOf}",
     ]
     kinds = {"case": ("Case", "AllHold", f"allSame same sameNumbers {names}", "all-same row{} refl"),
-             "charge": ("Charge", "AllCharge", charged, "(refl, tt)")}
+             "charge": ("Charge", "AllCharge", charged, "(refl, tt)"),
+             "storedCase": ("StoredCase", "AllOpen", f"allStored sameStored same sameNumbers storedBy firstDifference {names}", "all-stored row{} refl")}
     for number, row in enumerate(rows):
+        if row.startswith("roundSaid"):
+            text += ["", f"pub agree{number} : {row}", "unfolding roundSaid headingFrom headingOf listed", f"agree{number} = refl"]
+            continue
         kind, statement, unfolded, proof = kinds[row.split()[0]]
         text += [
             "",
@@ -145,6 +172,8 @@ def coverage(lines, answers):
         elif line.startswith("opening"):
             seen.update(orders_of([int(word, 16) for word in line.split()[2:]]))
             seen.update(rounds_of([int(word, 16) for word in answer.split()]))
+        elif line.startswith("view"):
+            seen["stored results that differ" if answer.startswith("different") else "rounds read of a stored result"] += 1
         elif line.startswith("fees"):
             fees = [int(fee) for fee in answer.split(" fees")[1].split()]
             seen[f"openings with fees in which {'an order pays' if any(fees) else 'nobody pays'}"] += 1
@@ -187,7 +216,7 @@ def rounds_of(result):
 def random_lines(count, seed):
     """Whole openings of small sheets, a third as many first rounds of others, at times in a space one word short, as many openings
     with fees of others again, by random tariffs and at times in a list one place short, and as many of each other call on a sheet,
-    of the band's calls together and of the waiting clock."""
+    of the band's calls together, of the waiting clock and of stored results."""
     some = max(int(count) // 3, 1)
     lines = reference("sheets", "small", count, seed)
     for number, line in enumerate(reference("sheets", "small", str(some), seed + "1")):
@@ -203,7 +232,14 @@ def random_lines(count, seed):
     for kind in ("check", "stepper", "curves", "band", "waiting"):
         made = reference("sheets", kind, str(8 * some), seed)
         lines += [line for line in made if len(line.split()) <= MOST_WORDS + 2][:some]
-    return lines
+    return lines + [line for line in reference("sheets", "view", str(24 * some), seed) if is_small_view(line)][:some]
+
+
+def is_small_view(line):
+    """Whether a line `view` can be read, and the checker can compute what it asks: few words, and few pieces on the sheet."""
+    _, _, count, *listed = line.split()
+    pieces = sum(int(word, 16) & 0xFFFFFFF for word in listed[:int(count)] if int(word, 16) >> 28 == 8)
+    return int(count) <= min(MOST_WORDS, len(listed)) and len(listed) <= MOST_STORED and pieces <= MOST_PIECES
 
 
 def main():

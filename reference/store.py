@@ -13,7 +13,10 @@ refusal. Of small openings with fees it takes, where an order is charged, 60 of 
 none is, 20; of large ones 10 of up to 9 rounds, 2 of 10 and more, and 2 in which an order's fee needs more than 32 bits; and 24 for
 which the tariff is not allowed and 24 for which a space is too small. For `step` it goes through random lines of every call on a sheet
 and takes only those whose sheet has the length of one with a step word: of each call 36 of small sheets and 5 of large ones, and
-of all together 40 for which the step word is wrong.
+of all together 40 for which the step word is wrong. Of rounds of stored results, in lines of up to 20,000 bytes, it takes 20 of small
+sheets with a result of one round, 20 of two and 20 of three or more, and 12 of large sheets; 24 of rounds past the last; of up to 40
+orders, 24 where the result differs within, 8 where words are missing and 8 where there are too many; 3 of each refusal of the sheet;
+and 8 in which the sheet is said to have more words than there are.
 """
 import collections
 import pathlib
@@ -51,9 +54,13 @@ if kind == "waiting":
     MOST = {f"{size}, phase {phase}, {due} due": most for size, most in {"short": 24, "long": 4}.items()
             for phase in (0, 1) for due in ("0", "1", "2 to 9", "more")}
     MOST |= {number: 24 for number in ("9", "11", "13", "14")}
+if kind == "view":
+    MOST = {rounds: 20 for rounds in ROUNDS} | {"large": 12, "9": 24, "unreadable": 8}
+    MOST |= {"different": 24, "different, too short": 8, "different, too long": 8}
+    MOST |= {number: 3 for number in ("1", "2", "3", "15", "17", "4", "5", "6", "7", "8")}
 if kind == "step":
     MOST = {f"{call}, {size}": most for call in ON_A_SHEET for size, most in {"small": 36, "large": 5}.items()} | {"17": 40}
-LONGEST = 4096
+LONGEST = 20000 if kind == "view" else 4096
 
 
 def small_sort(answer):
@@ -96,10 +103,33 @@ def waiting_sort(line, answer):
     return f"{size}, phase {phase}, {due if int(due) < 2 else '2 to 9' if int(due) < 10 else 'more'} due"
 
 
+def view_sort(line, answer):
+    """What a round of a stored result is picked as. Before the first difference all words are right: if a last word is among them,
+    the stored ones are too many."""
+    if len(line) > LONGEST:
+        return None
+    if answer == "unreadable":
+        return answer
+    _, _, count, *words = line.split()
+    orders, stored = (int(count) - 5) // 3, [int(word, 16) for word in words[int(count):]]
+    if answer.startswith("refused"):
+        return answer.split()[1] if orders <= 40 else None
+    if answer.startswith("different"):
+        place = int(answer.split()[1])
+        if orders > 40:
+            return None
+        if place == len(stored):
+            return "different, too short"
+        return "different, too long" if place > 0 and stored[place - 1] >> 28 == 15 else "different"
+    return ROUNDS[min(stored[-1] % 2**16, 3) - 1] if orders <= 30 else "large" if orders >= 100 else None
+
+
 def sort_of(line, answer):
     """What a line is picked as: a refusal's number, a sort of small or of large, or None."""
     if kind == "waiting":
         return waiting_sort(line, answer)
+    if kind == "view":
+        return view_sort(line, answer)
     call = line.split()[0]
     words = line.split()[{"check": 1, "fees": 6}.get(call, 2):]
     orders = (len(words) - 5) // 3

@@ -2,8 +2,10 @@
 
 use crate::answer::{hexadecimal, Opening, Round};
 use crate::random::Random;
+use crate::results::{round_past, spoilt};
 use crate::shapes::{random_sheet, Sizes};
 use crate::sheet::{read, Grid, Pieces, QuotationStep, Sheet, Side, Terms};
+use crate::stored::Answer;
 use crate::{fast, literal};
 
 /// What the sheets of a comparison came to.
@@ -23,6 +25,9 @@ struct Tally {
     changed_by_step: u64,
     /// Steppers of first rounds, buys and sells, whose step leads off the grid.
     off_grid: [u64; 2],
+    /// Answers about stored results: rounds, numbers of no round, differences within both lists and
+    /// where the shorter one ends.
+    stored: [u64; 4],
 }
 
 impl Tally {
@@ -103,6 +108,21 @@ impl Tally {
             "  Steppers, buys and sells, whose step leads off the grid: {:?}",
             self.off_grid
         );
+        println!(
+            "  stored results: rounds, no such round, different within, different in length: {:?}",
+            self.stored
+        );
+    }
+
+    fn add_stored(&mut self, written: &[u32], stored: &[u32], answer: &Answer<Round>) {
+        let shorter = written.len().min(stored.len());
+        let place = match answer {
+            Answer::Open(_) => 0,
+            Answer::Refused(_) => 1,
+            Answer::Different(place) if *place < shorter => 2,
+            Answer::Different(_) => 3,
+        };
+        self.stored[place] += 1;
     }
 }
 
@@ -180,6 +200,54 @@ fn compare_usual(sheet: &Sheet, grid: Grid) -> Result<(), String> {
     }
 }
 
+/// Stored words and rounds to ask for: those that the opening wrote, with each round and some past the
+/// last, and a few spoilt ones.
+fn stored_words(
+    random: &mut Random,
+    sheet: &Sheet,
+    grid: Grid,
+    opening: &Opening,
+) -> Vec<(Vec<u32>, u64)> {
+    let past = opening.rounds.len() as u64;
+    let numbers = (0..past + 2).chain([round_past(random, opening)]);
+    let mut asked: Vec<_> = numbers.map(|round| (opening.words(), round)).collect();
+    for _ in 0..4 {
+        let stored = spoilt(random, sheet, grid, opening);
+        asked.push((stored, random.between(0, past)));
+    }
+    asked
+}
+
+/// The two ways on words stored beside a sheet with this opening.
+fn compare_stored(
+    sheet: &Sheet,
+    grid: Grid,
+    opening: &Opening,
+    (stored, round): (&[u32], u64),
+) -> Result<Answer<Round>, String> {
+    let words = sheet.words();
+    let slow = literal::stored::round(opening, stored, round);
+    let quick = fast::stored::round(&words, grid, stored, round);
+    if slow == quick && same_view(&words, grid, opening, stored) {
+        return Ok(slow);
+    }
+    let stored = hexadecimal(stored, " ");
+    Err(format!("round {round} of {stored}: {slow:?} {quick:?}"))
+}
+
+/// Whether both ways let a result open, and then have the same number of rounds and the same ending, or
+/// tell the same place.
+fn same_view(words: &[u32], grid: Grid, opening: &Opening, stored: &[u32]) -> bool {
+    let slow = literal::stored::opens(opening, stored);
+    match (slow, fast::stored::opens(words, grid, stored)) {
+        (Answer::Open(slow), Answer::Open(quick)) => {
+            (slow.rounds.len(), slow.ending) == (quick.rounds(), quick.ending())
+        }
+        (Answer::Different(slow), Answer::Different(quick)) => slow == quick,
+        _ => false,
+    }
+}
+
 /// Prices at which the curves of a real grid are compared: near limits, a quotation step from them,
 /// and at random.
 fn real_prices(random: &mut Random, sheet: &Sheet, grid: Grid) -> Vec<u32> {
@@ -196,8 +264,19 @@ fn real_prices(random: &mut Random, sheet: &Sheet, grid: Grid) -> Vec<u32> {
     on_grid.collect()
 }
 
+/// The draws of a comparison. What is stored beside the sheets has its own, so that the sheets do not
+/// depend on it.
+struct Draws {
+    sheets: Random,
+    stored: Random,
+}
+
 /// Compares so many sheets; on a difference prints it and hands back false.
-fn run(random: &mut Random, name: &str, count: u64, real: bool) -> bool {
+fn run(draws: &mut Draws, name: &str, count: u64, real: bool) -> bool {
+    let Draws {
+        sheets: random,
+        stored,
+    } = draws;
     let mut tally = Tally::default();
     for _ in 0..count {
         let grid = match real {
@@ -213,7 +292,14 @@ fn run(random: &mut Random, name: &str, count: u64, real: bool) -> bool {
             false => (1..=grid.last).collect(),
         };
         let compared = compare(&sheet, grid, &prices)
-            .and_then(|opening| compare_usual(&sheet, grid).map(|()| opening));
+            .and_then(|opening| compare_usual(&sheet, grid).map(|()| opening))
+            .and_then(|opening| {
+                for (stored, round) in stored_words(stored, &sheet, grid, &opening) {
+                    let answer = compare_stored(&sheet, grid, &opening, (&stored, round))?;
+                    tally.add_stored(&opening.words(), &stored, &answer);
+                }
+                Ok(opening)
+            });
         match compared {
             Ok(opening) => tally.add(&sheet, grid, &opening),
             Err(difference) => {
@@ -231,9 +317,12 @@ fn run(random: &mut Random, name: &str, count: u64, real: bool) -> bool {
 /// Small grids, then a hundredth as many sheets on the document's grid. False on a
 /// difference.
 pub fn agree(count: u64, seed: u64) -> bool {
-    let mut random = Random::new(seed);
-    let same = run(&mut random, "small grids", count, false)
-        && run(&mut random, "grid of 1,000,000", count / 100, true);
+    let mut draws = Draws {
+        sheets: Random::new(seed),
+        stored: Random::new(!seed),
+    };
+    let same = run(&mut draws, "small grids", count, false)
+        && run(&mut draws, "grid of 1,000,000", count / 100, true);
     if same {
         println!("no difference");
     }

@@ -1,7 +1,7 @@
 //! The result words of a round and of an opening, and how they are printed.
 
 use crate::refusal::{Refusal, SPACE};
-use crate::sheet::{word, Pieces, Price};
+use crate::sheet::{value, word, Pieces, Price};
 
 /// What a round gives. A purchase price of 0 in the words is none here.
 #[derive(Clone, Debug, PartialEq, Eq)]
@@ -34,6 +34,13 @@ impl Round {
         words.extend(self.fills.iter().map(|fill| word(14, fill.0 as u32)));
         words
     }
+
+    /// The same figures and fills as they are printed for a round of a stored result, in decimal.
+    pub fn line(&self) -> String {
+        let values = self.words().into_iter().map(value);
+        let printed: Vec<String> = values.map(|value| value.to_string()).collect();
+        printed.join(" ")
+    }
 }
 
 impl Opening {
@@ -52,7 +59,7 @@ pub fn space_of_round(orders: usize) -> u64 {
 
 /// Room for the most rounds that there can be, n + 1, and the last word; an opening of fewer
 /// rounds needs it too.
-pub fn space_of_opening(orders: usize) -> u64 {
+pub const fn space_of_opening(orders: usize) -> u64 {
     let n = orders as u64;
     (n + 1) * (n + 4) + 1
 }

@@ -6,11 +6,17 @@ use crate::fast::opening::{curves, first_round, limit_of_stepper, opening};
 use crate::fees::Tariff;
 use crate::refusal::{Refusal, INPUT};
 use crate::sheet::{read, Grid, Layout, Price, MOST_ORDERS};
+use crate::stored;
 use crate::waiting::waiting;
 use std::io::{BufRead, Write};
 
 /// The bytes of a sheet with a step word and all 120 orders, 1,464.
 const MOST_BYTES: usize = 4 * Layout::Stepped.length(MOST_ORDERS);
+
+/// What a call's line may have, its newline left out: room for the longest sheet and for a stored
+/// result as long as its whole space. The call's name and its numbers are not among the words.
+const MOST_LINE_BYTES: usize = 150_000;
+const MOST_LINE_WORDS: usize = 16_384;
 
 const GRID: Grid = Grid::DOCUMENT;
 
@@ -27,13 +33,17 @@ pub fn opening_program(bytes: &[u8]) -> String {
 }
 
 fn opening_of_bytes(bytes: &[u8]) -> Result<Vec<u32>, Refusal> {
+    let sheet = read(&words_of_bytes(bytes)?, GRID)?;
+    Ok(opening(&sheet, GRID).words())
+}
+
+/// A sheet's words from a program's input, high byte first.
+pub fn words_of_bytes(bytes: &[u8]) -> Result<Vec<u32>, Refusal> {
     if !bytes.len().is_multiple_of(4) || bytes.len() > MOST_BYTES {
         return Err(INPUT);
     }
     let four = |bytes: &[u8]| u32::from_be_bytes([bytes[0], bytes[1], bytes[2], bytes[3]]);
-    let words: Vec<u32> = bytes.chunks(4).map(four).collect();
-    let sheet = read(&words, GRID)?;
-    Ok(opening(&sheet, GRID).words())
+    Ok(bytes.chunks(4).map(four).collect())
 }
 
 /// Answers every line of the input. Remarks are passed on, empty lines skipped.
@@ -56,12 +66,17 @@ pub fn answer_lines(input: impl BufRead, mut output: impl Write) -> std::io::Res
 
 /// One call's answer in one line.
 pub fn answer_line(line: &str) -> String {
-    let parts: Vec<&str> = line.split(' ').collect();
-    match answer(parts[0], &parts[1..]) {
+    match parts_of(line).and_then(|parts| answer(parts[0], &parts[1..])) {
         Some(Ok(text)) => text,
         Some(Err(refusal)) => refusal.line(),
         None => "unreadable".to_string(),
     }
+}
+
+/// What stands between the spaces; none if the line is too long. There is always a first one, be
+/// it empty.
+fn parts_of(line: &str) -> Option<Vec<&str>> {
+    (line.len() <= MOST_LINE_BYTES).then(|| line.split(' ').collect())
 }
 
 /// None if the line cannot be read as a call.
@@ -74,6 +89,7 @@ fn answer(call: &str, parts: &[&str]) -> Option<Answer> {
         "opening" => with_number(parts, opening_in),
         "fees" => fees_from(parts),
         "waiting" => waiting_from(parts),
+        "view" => view_from(parts),
         _ => band_call(call, &numbers(parts)?),
     }
 }
@@ -124,6 +140,18 @@ fn fees_from(parts: &[&str]) -> Option<Answer> {
     Some(fees_in(tariff, space, list, &words(rest)?))
 }
 
+/// The number of a round and how many of the words that follow are the sheet; the others are the
+/// stored result. There must be as many as the sheet is said to have.
+fn view_from(parts: &[&str]) -> Option<Answer> {
+    let [round, count, rest @ ..] = parts else {
+        return None;
+    };
+    let (round, count) = (number(round)?, number(count)?);
+    let both = words(rest)?;
+    let (sheet, stored) = both.split_at_checked(usize::try_from(count).ok()?)?;
+    Some(view(round, sheet, stored))
+}
+
 fn check(words: &[u32]) -> Answer {
     read(words, GRID)?;
     Ok("accepted".to_string())
@@ -166,6 +194,15 @@ fn fees_in(tariff: Tariff, space: u64, list: u64, words: &[u32]) -> Answer {
     Ok(line)
 }
 
+/// A result that differs gets an answer and not a refusal.
+fn view(round: u64, sheet: &[u32], stored: &[u32]) -> Answer {
+    match stored::round(sheet, stored, round) {
+        stored::Answer::Refused(refusal) => Err(refusal),
+        stored::Answer::Different(place) => Ok(format!("different {place}")),
+        stored::Answer::Open(round) => Ok(round.line()),
+    }
+}
+
 /// A decimal number of 64 bits, without sign.
 fn number(text: &str) -> Option<u64> {
     if text.bytes().all(|byte| byte.is_ascii_digit()) {
@@ -187,5 +224,8 @@ fn word(text: &str) -> Option<u32> {
 }
 
 fn words(parts: &[&str]) -> Option<Vec<u32>> {
+    if parts.len() > MOST_LINE_WORDS {
+        return None;
+    }
     parts.iter().map(|part| word(part)).collect()
 }

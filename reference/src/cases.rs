@@ -1,6 +1,9 @@
 //! The listing, the cases P1–P12, the table of refusals, the quotation step, the fees, and the waiting
-//! clock. The cases' openings and limits in force are worked out in both ways; bands, refusals, fees
-//! and the clock have only one.
+//! clock; stored results and their archive by themselves. The cases' openings, limits in force and
+//! stored results are worked out in both ways; bands, refusals, fees and the clock have only one.
+
+mod archive;
+mod stored;
 
 use crate::answer::{hexadecimal, space_of_opening, space_of_round, Opening, Round};
 use crate::arguments::{order_for, price_for, quick_sheet};
@@ -483,6 +486,35 @@ fn unreadable_lines() {
     let mut printed = Vec::new();
     crate::calls::answer_lines(&b"# remark\n\nnext 0 2\n"[..], &mut printed).unwrap();
     assert_eq!(printed, b"# remark\n1 3\n");
+}
+
+#[test]
+fn lines_too_long() {
+    // 16,384 words, and one more.
+    let rows = [
+        ("check", "refused 2 0"),
+        ("stepper 0", "refused 2 0"),
+        ("opening 5", "refused 2 0"),
+        ("fees 0 0 0 0 0", "refused 2 0"),
+        ("waiting 90 110", "refused 13 0"),
+        ("view 0 0", "refused 1 0"),
+        ("view 0 16384", "refused 2 0"),
+    ];
+    for (call, answer) in rows {
+        let line = call.to_string() + &" 0".repeat(16_384);
+        assert_eq!(answer_line(&line), answer, "{call}");
+        assert_eq!(answer_line(&(line + " 0")), "unreadable", "{call}");
+    }
+    // 150,000 bytes and one more, the newline left out; parts so long can only be numbers.
+    let long = format!("next 0 {}2", "0".repeat(149_992));
+    let longer = format!("next 0 {}2", "0".repeat(149_993));
+    assert_eq!((long.len(), longer.len()), (150_000, 150_001));
+    let remark = format!("#{}", "x".repeat(150_000));
+    let lines = format!("{long}\n{longer}\n{remark}\n{long}");
+    let mut printed = Vec::new();
+    crate::calls::answer_lines(lines.as_bytes(), &mut printed).unwrap();
+    let printed = String::from_utf8(printed).unwrap();
+    assert_eq!(printed, format!("1 3\nunreadable\n{remark}\n1 3\n"));
 }
 
 #[test]
@@ -1732,7 +1764,6 @@ fn random_fees_reach_all() {
     let mut most = 0;
     for _ in 0..3_000 {
         let line = line(&mut random, Kind::Fees);
-        assert!(line.len() <= 4_096);
         let answer = answer_line(&line);
         assert_ne!(answer, "unreadable");
         missing.retain(|start| !answer.starts_with(start));
@@ -1883,9 +1914,14 @@ fn clock_whole_day() {
     clocked("9 110", &[(&day, "0 0 0 9 110 143")]);
     let longer = day + "below 86399";
     clocked("9 110", &[(&longer, "1 85800 1 9 110 143")]);
-    // Lists may be far longer than a day has seconds.
-    let rounds = "above below ".repeat(100_000);
+    // As many rounds as a line has room for.
+    let rounds = "above ".repeat(16_383) + "below ";
     clocked("90 110", &[(&rounds, "1 0 1 90 110 0")]);
+    clocked("90 110", &[(&(rounds + "below"), "unreadable")]);
+    // Lists may be far longer than a line, and than a day has seconds.
+    let rounds = [0x2000_0000, 0x3000_0000].repeat(100_000);
+    let waiting = crate::waiting::waiting(90, 110, &rounds).unwrap();
+    assert_eq!(waiting.line(), "1 0 1 90 110 0");
 }
 
 #[test]
@@ -2014,7 +2050,6 @@ fn random_days_reach_all() {
     ];
     for _ in 0..3_000 {
         let line = line(&mut random, Kind::Waiting);
-        assert!(line.len() <= 4_096);
         let answer = answer_line(&line);
         assert_ne!(answer, "unreadable");
         missing.retain(|start| !answer.starts_with(start));

@@ -8,6 +8,7 @@ use crate::arguments::{
 use crate::damage::damage;
 use crate::fees::Tariff;
 use crate::random::Random;
+pub use crate::results::{stored_case, StoredCase};
 use crate::shapes::{random_sheet, Sizes};
 use crate::sheet::{Grid, Order};
 
@@ -22,6 +23,7 @@ pub enum Kind {
     Band,
     Small,
     Waiting,
+    View,
 }
 
 impl Kind {
@@ -36,6 +38,7 @@ impl Kind {
             "band" => Some(Kind::Band),
             "small" => Some(Kind::Small),
             "waiting" => Some(Kind::Waiting),
+            "view" => Some(Kind::View),
             _ => None,
         }
     }
@@ -48,6 +51,7 @@ pub fn line(random: &mut Random, kind: Kind) -> String {
         Kind::Band => band_line(random),
         Kind::Small => small_line(random),
         Kind::Waiting => waiting_line(random),
+        Kind::View => view_line(random),
         _ => sheet_line(random, kind),
     }
 }
@@ -167,4 +171,24 @@ fn waiting_line(random: &mut Random) -> String {
     let asked = waiting(random);
     let (lower, upper) = asked.band;
     joined(&format!("waiting {lower}"), Some(upper), &asked.words)
+}
+
+/// A stored result beside its sheet. Now and then the sheet is said to have more words than there are
+/// altogether.
+fn view_line(random: &mut Random) -> String {
+    let case = stored_case(random);
+    let all = (case.sheet.len() + case.stored.len()) as u64;
+    let right = case.sheet.len() as u64;
+    let count = match random.below(60) {
+        // The third would be right if it were cut down to 32 bits.
+        0 => random.pick(&[all + 1, all + 1, (1 << 32) + right, all + 1_000, u64::MAX]),
+        _ => right,
+    };
+    joined_view(&case, count)
+}
+
+/// The call for a round of a stored result as a line, with so many words said to be the sheet.
+pub fn joined_view(case: &StoredCase, count: u64) -> String {
+    let words = [&case.sheet[..], &case.stored].concat();
+    joined(&format!("view {}", case.round), Some(count), &words)
 }

@@ -1,13 +1,15 @@
-//! The second implementation as a program: answers calls, compares its two ways, draws random lines.
+//! The second implementation as a program: answers calls, reads stored results out, compares its two ways, draws
+//! random lines.
 
-use reference::{agree, calls, lines, random};
-use std::io::{stdin, stdout, BufWriter, Read, Write};
+use reference::{agree, archive, calls, lines, random};
+use std::io::{stdin, stdout, BufWriter, Error, Read, Write};
 use std::process::ExitCode;
 
 const USAGE: &str = "reference opening
+reference archive SHEET RESULT
 reference calls
 reference agree [COUNT] [SEED]
-reference sheets check|stepper|curves|round|opening|fees|band|small|waiting COUNT SEED";
+reference sheets check|stepper|curves|round|opening|fees|band|small|waiting|view COUNT SEED";
 
 fn main() -> ExitCode {
     let arguments: Vec<String> = std::env::args().skip(1).collect();
@@ -25,6 +27,7 @@ fn main() -> ExitCode {
 fn run(parts: &[&str]) -> Option<ExitCode> {
     match parts {
         ["opening"] => Some(written(opening())),
+        ["archive", sheet, result] => Some(written(read_out(sheet, result))),
         ["calls"] => Some(written(answer_calls())),
         ["agree"] => Some(agreed(20_000, 1)),
         ["agree", count] => Some(agreed(count.parse().ok()?, 1)),
@@ -42,6 +45,18 @@ fn opening() -> std::io::Result<()> {
     let mut bytes = Vec::new();
     stdin().lock().read_to_end(&mut bytes)?;
     stdout().write_all(calls::opening_program(&bytes).as_bytes())
+}
+
+/// Both files are read before anything is printed.
+fn read_out(sheet: &str, result: &str) -> std::io::Result<()> {
+    let (sheet, result) = (bytes_of(sheet)?, bytes_of(result)?);
+    stdout().write_all(archive::archive_program(&sheet, &result).as_bytes())
+}
+
+/// A file's bytes; if it cannot be read, the fault says which file it was.
+fn bytes_of(path: &str) -> std::io::Result<Vec<u8>> {
+    let named = |fault: Error| Error::new(fault.kind(), format!("{path}: {fault}"));
+    std::fs::read(path).map_err(named)
 }
 
 fn answer_calls() -> std::io::Result<()> {

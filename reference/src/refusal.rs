@@ -1,5 +1,5 @@
 //! The refusals by number (01 'Where a refusal arises'; 02 (1) for 13 and 14, 02 (2) for 15 and for what 3 means now, 02 (3)
-//! for 16, 02 (4) for 17).
+//! for 16, 02 (4) for 17; 02 (5) has another use for 9).
 
 /// `place` says where the fault lies, counted from 0: at which order in refusals 5–8, at which word of its list in all that
 /// the waiting clock refuses word by word (11, 13, 14). It is 0 in all others.
@@ -17,8 +17,8 @@ pub const HEADING_KIND: Refusal = Refusal::new(2);
 pub const HEADING_PRICE: Refusal = Refusal::new(3);
 /// More than 120 orders, or not as many words as the count of orders asks for, be it with a step word or without.
 pub const LENGTH: Refusal = Refusal::new(4);
-/// A number of no order or of one that is no Stepper, a price off the grid, a D at or above H,
-/// a code or side other than 0 and 1.
+/// A number of no order or of one that is no Stepper, of no round of a stored result, a price off
+/// the grid, a D at or above H, a code or side other than 0 and 1.
 pub const ARGUMENT: Refusal = Refusal::new(9);
 /// A space lent is too small, be it for the words of a result or for its fees.
 pub const SPACE: Refusal = Refusal::new(10);

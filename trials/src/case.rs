@@ -8,6 +8,7 @@ use reference::arguments::{
 };
 use reference::damage::damage;
 use reference::random::Random;
+use reference::results::{stored_case, StoredCase};
 use reference::sheet::Sheet;
 
 /// What the calls of one case are asked. Numbers are of 64 bits, as the reference implementation takes them.
@@ -25,6 +26,8 @@ pub struct Case {
     pub charged: Charged,
     /// At times the fees on a second sheet, a chain that charges one order in nearly every round.
     pub chain: Option<(Vec<u32>, Charged)>,
+    /// At times a stored result, beside a sheet of its own.
+    pub stored: Option<StoredCase>,
 }
 
 /// In sixteen cases, so many have a damaged sheet, so many arguments that are most likely refused, so many a tariff that is not
@@ -36,6 +39,9 @@ const BAD_SPACES: u64 = 1;
 
 /// One case in so many has a chain besides.
 const CHAINS: u64 = 32;
+
+/// One case in so many has a stored result.
+const STORED: u64 = 4;
 
 impl Case {
     pub fn drawn(seed: u64, number: u64) -> Case {
@@ -60,6 +66,7 @@ impl Case {
             waiting: waiting(random),
             charged: charged_for(random, &sheet),
             chain: random_chain(random),
+            stored: random.one_in(STORED).then(|| stored_case(random)),
         }
     }
 }

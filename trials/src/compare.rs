@@ -10,8 +10,9 @@ use reference::answer::{
 };
 use reference::arguments::{Charged, Waited};
 use reference::fast::opening::{first_round, opening};
-use reference::lines::{joined, joined_fees};
+use reference::lines::{joined, joined_fees, joined_view};
 use reference::refusal::Refusal;
+use reference::results::StoredCase;
 use reference::sheet::{read, Grid, Sheet};
 use std::fmt::{Debug, LowerHex};
 
@@ -211,6 +212,9 @@ pub fn compare(case: &Case, lent: &mut Spaces, tally: &mut Tally) -> Compared {
     }
     compare_bands(&asked, tally)?;
     compare_waiting(&case.waiting, tally)?;
+    if let Some(asked) = &case.stored {
+        compare_stored(asked, tally)?;
+    }
     tally.sheets += 1;
     Ok(())
 }
@@ -316,5 +320,26 @@ fn compare_waiting(asked: &Waited, tally: &mut Tally) -> Compared {
     if due.refusal == 0 {
         tally.waited(given.len(), due.phase, due.due);
     }
+    Ok(())
+}
+
+/// A stored result: whether it opens, and a round of it, on copies of sheet and result.
+fn compare_stored(asked: &StoredCase, tally: &mut Tally) -> Compared {
+    let (sheet, stored) = (asked.sheet.clone(), asked.stored.clone());
+    let (at, count, to, length) = (sheet.as_ptr(), sheet.len(), stored.as_ptr(), stored.len());
+    let opened = unsafe { raw::auction_stored_opens(at, count, to, length) };
+    let round = unsafe { raw::auction_stored_round(at, count, to, length, asked.round as usize) };
+    let fills: Vec<u64> = (stored.iter().skip(round.fills).take(round.count))
+        .map(|word| u64::from(word % (1 << 28)))
+        .collect();
+    let due = (expected::stored_opens(asked), expected::stored_round(asked));
+    if (opened, (round, fills.clone())) != due || sheet != asked.sheet || stored != asked.stored {
+        let line = joined_view(asked, asked.sheet.len() as u64);
+        let what = format!("the library\n  {opened:?}\n  {round:?}\n  {fills:?}\nthe reference implementation\n  {due:?}\nor it changed a list");
+        return Err(Difference { line, what });
+    }
+    tally.met(Call::StoredOpens, opened.refusal);
+    tally.met(Call::StoredRound, round.refusal);
+    tally.compared(opened.different, asked, round.count);
     Ok(())
 }

@@ -4,7 +4,9 @@ use crate::boxashewu::raw;
 use reference::band::{indicative_price, next_band, widening};
 use reference::fast::opening::{curves, limit_of_stepper};
 use reference::refusal::Refusal;
+use reference::results::StoredCase;
 use reference::sheet::{Grid, Price, Sheet};
+use reference::stored::{opens, round, Answer};
 
 type Read<'a> = Result<&'a Sheet, Refusal>;
 
@@ -111,4 +113,51 @@ pub fn waiting(asked: &reference::arguments::Waited) -> raw::WaitingReply {
         upper,
         due: answer.map_or(0, |waiting| waiting.openings_due),
     }
+}
+
+/// What is said of the whole of a stored result: refusal, order, whether it is different, and where.
+fn told<T>(answer: &Answer<T>) -> (u32, usize, u32, usize) {
+    match answer {
+        Answer::Refused(refusal) => (refusal.number, refusal.place, 0, 0),
+        Answer::Different(place) => (0, 0, 1, *place),
+        Answer::Open(_) => (0, 0, 0, 0),
+    }
+}
+
+pub fn stored_opens(asked: &StoredCase) -> raw::StoredReply {
+    let (refusal, order, different, place) = told(&opens(&asked.sheet, &asked.stored));
+    raw::StoredReply {
+        refusal,
+        order,
+        different,
+        place,
+    }
+}
+
+/// The fills themselves stand in the stored list, where the library says: they are compared apart.
+pub fn stored_round(asked: &StoredCase) -> (raw::RoundReply, Vec<u64>) {
+    let answer = round(&asked.sheet, &asked.stored, asked.round);
+    let (refusal, order, different, place) = told(&answer);
+    let mut reply = raw::RoundReply {
+        refusal,
+        order,
+        different,
+        place,
+        situation: 0,
+        price: 0,
+        purchase: 0,
+        total: 0,
+        fills: 0,
+        count: 0,
+    };
+    let Answer::Open(round) = answer else {
+        return (reply, Vec::new());
+    };
+    reply.situation = round.situation;
+    reply.price = round.auction_price.0;
+    reply.purchase = round.purchase_price.map_or(0, |price| price.0);
+    reply.total = round.total.0 as u32;
+    reply.count = round.fills.len();
+    reply.fills = asked.round as usize * (4 + reply.count) + 4;
+    (reply, round.fills.iter().map(|fill| fill.0).collect())
 }

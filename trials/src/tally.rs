@@ -3,6 +3,7 @@
 use reference::answer::Opening;
 use reference::fast::opening::first_round;
 use reference::fees::{worth, Tariff};
+use reference::results::StoredCase;
 use reference::sheet::{Grid, Order, Pieces, Sheet};
 
 #[derive(Clone, Copy)]
@@ -17,10 +18,12 @@ pub enum Call {
     NextBand,
     WidenedBand,
     WaitingClock,
+    StoredOpens,
+    StoredRound,
 }
 
 /// Their names, in the same order.
-const CALLS: [&str; 10] = [
+const CALLS: [&str; 12] = [
     "check",
     "stepper_limit",
     "curves_at",
@@ -31,6 +34,8 @@ const CALLS: [&str; 10] = [
     "next_band",
     "widened_band",
     "waiting_clock",
+    "stored_opens",
+    "stored_round",
 ];
 
 /// 0, and the numbers of the refusals.
@@ -40,7 +45,7 @@ const NUMBERS: usize = 18;
 pub struct Tally {
     pub sheets: u64,
     /// For each call, how often it was refused with each number; under 0, how often it answered.
-    calls: [[u64; NUMBERS]; 10],
+    calls: [[u64; NUMBERS]; 12],
     /// Openings of 1, 2, 3 to 9, 10 to 59, 60 rounds and more.
     rounds: [u64; 5],
     most_rounds: usize,
@@ -61,6 +66,10 @@ pub struct Tally {
     waiting: u64,
     due: [u64; 5],
     longest_list: usize,
+    /// Stored results that are different; and of all of them the most words, and the largest number of a round that was read.
+    different: u64,
+    longest_result: usize,
+    latest_round: u64,
 }
 
 /// What was charged.
@@ -170,6 +179,15 @@ impl Tally {
         self.longest_list = self.longest_list.max(words);
     }
 
+    /// A stored result beside its sheet, by whether it is different and how many fills the round has that was read.
+    pub fn compared(&mut self, different: u32, asked: &StoredCase, fills: usize) {
+        self.different += u64::from(different);
+        self.longest_result = self.longest_result.max(asked.stored.len());
+        if fills > 0 {
+            self.latest_round = self.latest_round.max(asked.round);
+        }
+    }
+
     pub fn join(&mut self, other: &Tally) {
         let sum = |own: &mut [u64], others: &[u64]| {
             own.iter_mut().zip(others).for_each(|(own, n)| *own += n);
@@ -193,6 +211,9 @@ impl Tally {
         self.by_the_step += other.by_the_step;
         self.trading += other.trading;
         self.fees.join(&other.fees);
+        self.different += other.different;
+        self.longest_result = self.longest_result.max(other.longest_result);
+        self.latest_round = self.latest_round.max(other.latest_round);
     }
 
     pub fn print(&self) {
@@ -225,6 +246,10 @@ impl Tally {
             self.waiting, self.longest_list
         );
         println!("openings due 0: {none}, 1: {one}, 2 to 9: {few}, 10 to 142: {many}, 143: {most}");
+        println!(
+            "stored results that differ: {}, of most words: {}, latest round read: {}",
+            self.different, self.longest_result, self.latest_round
+        );
     }
 }
 

@@ -7,7 +7,6 @@ use mathlib.Core.Path.{_≡_, sym, ap, _∙_}
 use Prim.Native.Nat.{ℕ, _≤_, _<_, min}
 use native.Mathlib.Omega.{arith}
 use lib.ListN.{List·getD-map, getD, length}
-use lib.Seq.{getD-take}
 use lib.Dec.{ltb}
 use borrow.Author.Tests.{le-ltb, lt-ltb, ltb-true, ltb-false, not-true, not-false}
 use Rattle.book.specs.Book.{Ranged}
@@ -37,7 +36,7 @@ use Rattle.rules.specs.declared.Side.{Side}
 use Rattle.rules.specs.declared.Side.the-variants.{Buy, Sell}
 use Rattle.rules.specs.declared.Terms.{Terms}
 use Rattle.rules.specs.declared.Terms.the-variants.{WithoutLimit, Limited, Stepper}
-use Rattle.run.proofs.Accepted.{orders-are, count-is, sound, few-of-sheet}
+use Rattle.run.proofs.Accepted.{orders-are, own-order, count-is, sound, few-of-sheet}
 use Rattle.run.proofs.Places.{remaining-first}
 use Rattle.run.proofs.Running.{round-ranged, running-none}
 use Rattle.run.specs.Accepted.{AcceptedAs, OfSheet}
@@ -83,13 +82,9 @@ module _ {ws : List ℕ} {h : Heading} {orders : List Order} (a : AcceptedAs ws 
     no-such-order past = rw (limit-answer, le-ltb k (headingOf ws .count) (omega (arith, count-is a)))
 
     module _ (l : k < h .count) where
-      own-order : filed (ordersOf ws) k ≡ filed orders k
-      unfolding filedIn
-      own-order = ap (λ (os : List Order). filed os k) (sym (orders-are a)) ∙ getD-take (h .count) orders k noOrder l
-
       -- whether the order is a Stepper is told by its terms
       own-terms : isStepper ws k ≡ stepper (filed orders k .terms)
-      own-terms = rw (lt-ltb k (headingOf ws .count) (omega (arith, count-is a)), own-order)
+      own-terms = rw (lt-ltb k (headingOf ws .count) (omega (arith, count-is a)), own-order a k l)
 
       pub no-stepper : stepper (filed orders k .terms) ≡ false → refuses 9 0 ≡ answer (stepperLimit ws k)
       no-stepper other = rw (limit-answer, own-terms, other)
@@ -102,11 +97,11 @@ module _ {ws : List ℕ} {h : Heading} {orders : List Order} (a : AcceptedAs ws 
           (getD (firstStart ws .remaining) k 0)
       unfolding firstStanding
       own-stands =
-          rw (← own-order)
+          rw (← own-order a k l)
           (standing-at (headingOf ws) (ordersOf ws) (firstStart ws .remaining) k (omega (arith, count-is a, count-orders ws)))
 
       own-sound : SoundOrder (filed orders k)
-      own-sound = rw (← own-order) (sound a .orders k noOrder (omega (arith, count-is a)))
+      own-sound = rw (← own-order a k l) (sound a .orders k noOrder (omega (arith, count-is a)))
 
       own : sameSide (filed orders k .side) (numbered (firstStanding ws) k .side) ≡ true
       own = rw own-stands (side-same (filed orders k .side))
@@ -114,7 +109,7 @@ module _ {ws : List ℕ} {h : Heading} {orders : List Order} (a : AcceptedAs ws 
       some-left : 0 < numbered (firstStanding ws) k .remaining .0
       unfolding firstStart
       some-left =
-          rw (own-stands, List·getD-map (λ (o : Order). o .quantity .0) (ordersOf ws) k noOrder, own-order) (own-sound .some)
+          rw (own-stands, List·getD-map (λ (o : Order). o .quantity .0) (ordersOf ws) k noOrder, own-order a k l) (own-sound .some)
 
       -- a Stepper's limit in force is a price of the grid
       limit-on : stepper (filed orders k .terms) ≡ true → OnGrid (numbered (firstStanding ws) k .limit .0)

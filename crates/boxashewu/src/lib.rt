@@ -2,13 +2,15 @@
 // numbers comes out; include/boxashewu.h says what a caller owes.
 mod clock;
 mod replies;
+mod stored_replies;
 
 ghost use mathlib.Core.Path.{_≡_};
 ghost use lib.ListN.{length};
 ghost use Rattle.claims.specs.Calls.{FirstRound, Opened, OpenedWithFees};
 ghost use Rattle.rules.specs.Calls.{answer, check, stepperLimit, curvesAt, firstRound, opening, openingFees, indicative, next, widen, waiting};
 ghost use Rattle.rules.specs.Fees.{tariffOf};
-ghost use Rattle.boxashewu.specs.Replies.{sheetReply, priceReply, curvesReply, spaceReply, bandReply, waitingReply};
+ghost use Rattle.rules.specs.Stored.{openStored, storedRound, storedAnswer};
+ghost use Rattle.boxashewu.specs.Replies.{sheetReply, priceReply, curvesReply, spaceReply, bandReply, waitingReply, storedReply, roundReply};
 use clock::WaitingReply;
 use clock::waiting_reply;
 use replies::BandReply;
@@ -22,6 +24,10 @@ use replies::price_reply;
 use replies::sheet_reply;
 use replies::space_reply;
 use rules::Tariff;
+use stored_replies::RoundReply;
+use stored_replies::StoredReply;
+use stored_replies::round_reply;
+use stored_replies::stored_reply;
 
 // Checks a sheet.
 #[no_mangle]
@@ -124,4 +130,20 @@ pub extern "C" fn auction_waiting_clock(lower: u32, upper: u32, words: &[u32]) -
     ensures { λ r. ⌜ r ≡ waitingReply (answer (waiting lower upper (now (words .entry)))) ⌝ }
 {
     waiting_reply(waiting::waiting_clock(lower, upper, words))
+}
+
+// Whether a stored result opens beside its sheet, or where it differs from what the sheet's opening writes.
+#[no_mangle]
+pub extern "C" fn auction_stored_opens(sheet: &[u32], stored: &[u32]) -> StoredReply
+    ensures { λ r. ⌜ r ≡ storedReply (storedAnswer (openStored (now (sheet .entry)) (now (stored .entry)))) ⌝ }
+{
+    stored_reply(stored::opens(sheet, stored))
+}
+
+// A round of a stored result, counted from 0, where it opens beside its sheet.
+#[no_mangle]
+pub extern "C" fn auction_stored_round(sheet: &[u32], stored: &[u32], round: usize) -> RoundReply
+    ensures { λ r. ⌜ r ≡ roundReply (storedAnswer (storedRound (now (sheet .entry)) (now (stored .entry)) round)) ⌝ }
+{
+    round_reply(stored::read_round(sheet, stored, round))
 }

@@ -7,6 +7,7 @@ use crate::fields::read_numbers;
 use crate::space::Writes;
 use crate::space::print_charged;
 use crate::space::print_written;
+use crate::view::print_view;
 use rules::BandAnswer;
 use rules::Checked;
 use rules::Clock;
@@ -17,7 +18,7 @@ use rules::Refusal;
 use rules::Tariff;
 use rules::WaitingAnswer;
 
-// A call on a list of words. All but the last are on a sheet.
+// A call on a list of words. All but the last are on a sheet, that of a view with a stored result behind it.
 enum ListCall {
     Check,
     Stepper,
@@ -25,6 +26,7 @@ enum ListCall {
     Round,
     Opening,
     Fees,
+    View,
     Waiting,
 }
 
@@ -143,6 +145,7 @@ fn numbers_before(call: ListCall) -> usize
         ListCall::Round => 1,
         ListCall::Opening => 1,
         ListCall::Fees => 5,
+        ListCall::View => 2,
         ListCall::Waiting => 2,
     }
 }
@@ -164,6 +167,7 @@ fn call_list(call: ListCall, numbers: [u64; 5], words: &[u32]) {
         ListCall::Round => print_written(Writes::FirstRound, numbers[0], words),
         ListCall::Opening => print_written(Writes::Opening, numbers[0], words),
         ListCall::Fees => call_fees(numbers, words),
+        ListCall::View => print_view(numbers[0], numbers[1], words),
         ListCall::Waiting => print_waiting(waiting::waiting_clock(
             argument(numbers[0]),
             argument(numbers[1]),
@@ -173,11 +177,11 @@ fn call_list(call: ListCall, numbers: [u64; 5], words: &[u32]) {
 }
 
 // The words of a list, from fields of at most 32 bits.
-fn answer_words(call: ListCall, numbers: [u64; 5], fields: &[u64; 2048], count: usize) {
-    if 2048 < count {
+fn answer_words(call: ListCall, numbers: [u64; 5], fields: &[u64; 16384], count: usize) {
+    if 16384 < count {
         return;
     }
-    let mut words = [0u32; 2048];
+    let mut words = [0u32; 16384];
     let mut i = 0;
     while i < count {
         words[i] = argument(fields[i]);
@@ -188,7 +192,7 @@ fn answer_words(call: ListCall, numbers: [u64; 5], fields: &[u64; 2048], count: 
 
 // The words behind the numbers.
 fn answer_behind(call: ListCall, numbers: [u64; 5], text: &[u8]) {
-    let mut fields = [0u64; 2048];
+    let mut fields = [0u64; 16384];
     match read_fields(text, true, &mut fields) {
         Fields::Count(count) => answer_words(call, numbers, &fields, count),
         Fields::Unreadable => unreadable(),
@@ -207,7 +211,7 @@ fn answer_list(call: ListCall, text: &[u8]) {
 }
 
 // The calls about bands, told apart by the number of their fields where the name is known.
-fn call_band(name: &[u8], fields: &[u64; 2048], count: usize) {
+fn call_band(name: &[u8], fields: &[u64; 16384], count: usize) {
     if check::same(name, b"indicative") & (count == 5) {
         print_price(band::indicative_price(
             argument(fields[0]),
@@ -234,7 +238,7 @@ fn call_band(name: &[u8], fields: &[u64; 2048], count: usize) {
 }
 
 fn answer_band(name: &[u8], text: &[u8]) {
-    let mut fields = [0u64; 2048];
+    let mut fields = [0u64; 16384];
     match read_fields(text, false, &mut fields) {
         Fields::Count(count) => call_band(name, &fields, count),
         Fields::Unreadable => unreadable(),
@@ -264,6 +268,10 @@ fn answer_call(name: &[u8], text: &[u8]) {
     }
     if check::same(name, b"fees") {
         answer_list(ListCall::Fees, text);
+        return;
+    }
+    if check::same(name, b"view") {
+        answer_list(ListCall::View, text);
         return;
     }
     if check::same(name, b"waiting") {

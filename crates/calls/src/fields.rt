@@ -2,8 +2,9 @@
 ghost use Prim.Native.Nat.{_≤_};
 ghost use lib.ListN.{length};
 
-// The most fields that a line may have. A line of 4,096 bytes has fewer.
-pub(crate) const MOST: usize = 2048;
+// The most fields that a line may have: room for the 366 words of the longest sheet and the 15,005 of the longest
+// result, and for more than that.
+pub(crate) const MOST: usize = 16384;
 
 pub(crate) enum Number {
     Is(u64),
@@ -151,7 +152,7 @@ pub(crate) fn read_numbers(text: &[u8], count: usize, numbers: &mut [u64; 5]) ->
 }
 
 // Reads the fields of a text in which each stands after a space.
-pub(crate) fn read_fields(text: &[u8], hex: bool, fields: &mut [u64; 2048]) -> Fields {
+pub(crate) fn read_fields(text: &[u8], hex: bool, fields: &mut [u64; 16384]) -> Fields {
     let mut count: usize = 0;
     let mut at: usize = 0;
     while at < text.len() {

@@ -24,6 +24,18 @@ pub(crate) fn help() {
     );
     say(b"                                         this tariff, in a list of LIST places");
     say(
+        b"  view ROUND COUNT WORD ..               a round of a stored result: situation, auction price,",
+    );
+    say(
+        b"                                         purchase price, total, fills; the first COUNT words are",
+    );
+    say(
+        b"                                         the sheet, the others the result; or 'different' and the",
+    );
+    say(
+        b"                                         place at which it first differs from the opening's",
+    );
+    say(
         b"  indicative D H COUNT CLOSING AUCTION   the indicative price, by the count of pieces traded,",
     );
     say(

@@ -4,6 +4,7 @@ mod answers;
 mod fields;
 mod help;
 mod space;
+mod view;
 
 use answers::answer;
 
@@ -86,7 +87,8 @@ fn read_all(text: &mut [u8]) -> Line {
 }
 
 fn answer_all() {
-    let mut text = io::buffer();
+    // The bytes of the longest line: MOST words of nine bytes, with a call's name and numbers before them.
+    let mut text = [0u8; 150000];
     let line = read_all(&mut text);
     if 0 < line.len {
         take(line, b'\n', &mut text);

@@ -6,7 +6,6 @@ ghost use lib.ListN.{length};
 use crate::answers::print_refusal;
 use rules::SpaceAnswer;
 use rules::Tariff;
-use words::word_of;
 
 // The words that the program has to lend. An opening of 120 orders needs 15,005.
 const WORDS: usize = 16384;
@@ -86,14 +85,6 @@ fn all_places() -> [u64; 128]
     [0; 128]
 }
 
-// How many orders a sheet says that it has.
-fn orders_on(words: &[u32]) -> usize {
-    if words.len() < 5 {
-        return 0;
-    }
-    word_of(words[4]).value as usize
-}
-
 fn print_fees(fees: &[u64]) {
     io::write_all(1, b" fees");
     let mut i = 0;
@@ -113,7 +104,7 @@ fn charge_in(tariff: Tariff, words: &[u32], space: &mut [u32], fees: &mut [u64])
             if count <= space.len() {
                 print_words(&space[..count]);
             }
-            let orders = orders_on(words);
+            let orders = sheet::order_count(words);
             if orders <= fees.len() {
                 print_fees(&fees[..orders]);
             }

@@ -9,6 +9,7 @@ use native.Mathlib.Omega.{arith}
 use lib.Dec.{ltb}
 use lib.ListN.{length, drop}
 use borrow.Author.Tests.{le-ltb}
+use Rattle.claims.proofs.Bounds.{most-space}
 use Rattle.claims.proofs.Demand3Holds.{demand3-holds}
 use Rattle.claims.proofs.Opening.{fills-count, number-fits}
 use Rattle.claims.proofs.ReadBack.{read-back}
@@ -18,13 +19,13 @@ use Rattle.claims.specs.Calls.{FirstRound, Opened, OpenedWithFees}
 use Rattle.claims.specs.Fills.{Largest}
 use Rattle.claims.specs.Fits.{FitsWords}
 use Rattle.rules.proofs.Accepted.{accepted-sound, enough-words}
-use Rattle.rules.proofs.Downwards.{downwards-append}
+use Rattle.rules.proofs.Downwards.{downwards-append, last-row}
 use Rattle.rules.specs.Answers.{Answer, gives, row, downwards}
 use Rattle.rules.specs.Calls.{firstRound, opening, openingFees, firstStanding, answerBy, answer, spaceAfter, Writes, wordsGiven, feesGiven}
 use Rattle.rules.specs.Fees.{tariffStands}
 use Rattle.rules.specs.Opening.{Round, roundFrom, firstStart, roundWords, openingWords, roundSpace, openingSpace}
 use Rattle.rules.specs.Result.{count, roundSaid, auctionIn}
-use Rattle.rules.specs.Sheet.{headingOf, sheetChecks, AcceptedSheet}
+use Rattle.rules.specs.Sheet.{headingOf, sheetChecks, checkSheet, AcceptedSheet}
 use Rattle.rules.specs.declared.Tariff.{Tariff}
 
 -- the first round of a sheet, by the rules
@@ -58,6 +59,17 @@ module _ (ws : List ℕ) (accepted : AcceptedSheet ws) where
   pub opening-given : {size : ℕ} → openingSpace (count ws) ≤ size → answer (opening ws size) ≡ gives (openingWords ws)
   unfolding answer answerBy openingWords
   opening-given enough = enough-words ws accepted (openingWords ws) enough
+
+-- where the space has the words that an accepted sheet asks for, row 10 does not arise: the sheet's own rows are left, of every sheet
+pub opening-checked : (ws : List ℕ) {size : ℕ} → (AcceptedSheet ws → openingSpace (count ws) ≤ size)
+    → answer (opening ws size) ≡ downwards (sheetChecks ws) (gives (openingWords ws))
+unfolding answer answerBy openingWords checkSheet
+opening-checked ws {size} enough =
+    last-row (sheetChecks ws) _ _ (λ clear. le-ltb size (openingSpace (count ws)) (enough (clear .hands-on (gives []))))
+
+-- 15,005 words are always enough
+pub most-asked : (ws : List ℕ) → AcceptedSheet ws → openingSpace (count ws) ≤ 15005
+most-asked ws accepted = most-space (count ws) (accepted-sound ws accepted .heading .count)
 
 -- where the tariff stands and each order has a place, the opening with fees answers what the opening answers, of every sheet
 pub as-opening : (ws : List ℕ) (t : Tariff) (space places : ℕ) → tariffStands t ≡ true → count ws ≤ places

@@ -24,4 +24,5 @@ pub mod Demand3Holds
 pub mod Trades
 pub mod NothingOpen
 pub mod CallsHold
+pub mod StoredHold
 pub mod Waiting

@@ -25,7 +25,7 @@ use Rattle.rules.specs.declared.Side.{Side}
 use Rattle.rules.specs.declared.Side.the-variants.{Buy, Sell}
 use Rattle.rules.specs.declared.Standing.{Standing}
 
-every-at : (P : ℕ → Bool) (n k : ℕ) → everyTo P n ≡ true → k < n → P k ≡ true
+pub every-at : (P : ℕ → Bool) (n k : ℕ) → everyTo P n ≡ true → k < n → P k ≡ true
 unfolding everyTo
 every-at P zero k e l = absurd (omega arith)
 every-at P (suc n) k e l = go (last-or-before l) (every-at P n k (both {a = everyTo P n} e .0))

@@ -1,9 +1,10 @@
--- What is claimed beyond what the rules say: F1–F4 and the largest fills, the auction price against other prices, demand 3, what the two
--- calls that write promise, and what may be expected of the waiting clock. Each claim is a theorem in proofs/.
+-- What is claimed beyond what the rules say: F1–F4 and the largest fills, the auction price against other prices, demand 3, what the
+-- calls that write promise, what a stored result says that opens, and what may be expected of the waiting clock. Each claim is a theorem in proofs/.
 pub mod Fills
 pub mod Price
 pub mod Demand3
 pub mod Calls
+pub mod Stored
 pub mod Waiting
 -- Words in which the laws and the engine's promises speak; they claim nothing.
 pub mod Orders

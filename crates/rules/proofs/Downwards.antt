@@ -2,7 +2,7 @@
 -- What a table does to one answer it does to every other: it hands each on, or refuses with the same numbers.
 use mathlib.Core.Bool.{Bool, true, false, cond}
 use mathlib.Core.List.{List, [], _∷_, _++_}
-use mathlib.Core.Path.{_≡_, refl}
+use mathlib.Core.Path.{_≡_, refl, sym, _∙_}
 use Prim.Native.Nat.{ℕ}
 use native.Mathlib.Omega.{arith}
 use Rattle.rules.specs.Answers.{Answer, gives, refuses, Check, downwards, verdict}
@@ -80,6 +80,16 @@ refused-stops (c ∷ cs) vs {n} {k} e = record { refuses-all = go (c .arises) e 
         → (a : Answer) → cond t (refuses (c .number) (c .place)) (downwards cs a) ≡ refuses n k
     go true e rest a = e
     go false e rest a = rest e .refuses-all a
+
+-- a last row that does not arise where those before it are passed
+pub last-row : (cs : List Check) (last : Check) (vs : List ℕ) → (Clear cs → last .arises ≡ false)
+    → downwards (cs ++ (last ∷ [])) (gives vs) ≡ downwards cs (gives vs)
+unfolding downwards
+last-row cs last vs passes = downwards-append cs (last ∷ []) (gives vs) ∙ go (downwards cs (gives [])) refl
+  where
+    go : (a : Answer) → downwards cs (gives []) ≡ a → downwards cs (downwards (last ∷ []) (gives vs)) ≡ downwards cs (gives vs)
+    go (gives ws) e = rw (passes (given-clear cs (gives []) e))
+    go (refuses n k) e = let stops : Stops cs n k = refused-stops cs [] e in stops .refuses-all _ ∙ sym (stops .refuses-all (gives vs))
 
 module _ (c : Check) (cs : List Check) (p : Clear (c ∷ cs)) where
   -- the first row does not arise

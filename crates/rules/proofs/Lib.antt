@@ -9,4 +9,5 @@ pub mod Sums
 pub mod Scan
 pub mod Ends
 pub mod Quick
+pub mod Stored
 pub mod Cases

@@ -1,16 +1,18 @@
 -- Clauses 12.1–12.6 of docs/RULES.md: P1–P12, further cases, those of the waiting clock, of fees and of the step, with a common statement,
--- that the rules give the answer of the case; then the fees on results, and the listing, from bytes to text. D is 90, H 110, the last
+-- that the rules give the answer of the case; then the fees on results, stored results, and the listing, from bytes to text. D is 90, H 110, the last
 -- purchase price 100 and I 100, where a sheet says nothing else.
 use mathlib.Core.List.{List, [], _∷_, _++_, map}
 use mathlib.Core.Path.{_≡_}
 use Prim.Native.Nat.{ℕ, _+_, _*_}
 use Prim.Native.String.{String}
-use lib.ListN.{length, set, replicate}
+use lib.ListN.{length, set, take, replicate}
 use Rattle.rules.specs.Answers.{Answer, gives, refuses}
 use Rattle.rules.specs.Calls.{Call, check, stepperLimit, curvesAt, firstRound, opening, openingFees, indicative, next, widen, waiting, answer, feesGiven}
 use Rattle.rules.specs.Fees.{tariffOf, feesOn}
 use Rattle.rules.specs.Listing.{ascii, printed}
+use Rattle.rules.specs.Pages.{archived}
 use Rattle.rules.specs.Result.{roundsIn, roundSaid, startSaid, piecesOver, tradedOver}
+use Rattle.rules.specs.Stored.{StoredCall, openStored, storedRound, StoredAnswer, answers, differs, storedAnswer, page}
 use Rattle.rules.specs.declared.Side.the-variants.{Buy}
 use Rattle.rules.specs.declared.Tariff.{Tariff}
 use Rattle.rules.specs.Words.{word}
@@ -468,6 +470,47 @@ stepCases =
     ∷ case (check (heading 1 ++ (word 0 7 ∷ word 6 95 ∷ word 8 4 ∷ []))) (refuses 5 0)
     ∷ []
 
+-- ---- Stored results, worked out by hand
+
+-- [12.4d] A call on a stored result, and the answer that it has to get.
+pub record StoredCase : Type 0 where
+  pub call : StoredCall
+  pub expected : StoredAnswer
+
+abbrev pub storedCase : StoredCall → StoredAnswer → StoredCase
+storedCase c d = record { call = c; expected = d }
+
+abbrev pub AllOpen : List StoredCase → Type 0
+AllOpen = Each (λ c. storedAnswer (c .call) ≡ c .expected)
+
+-- [12.4d] Cases of stored results, mostly of the listing's: two rounds of 6 words, and a last word.
+unfoldable pub storedCases : List StoredCase
+storedCases =
+    -- it opens, and each round is read; its fill words are two, from word 4 and from word 10 on
+    storedCase (openStored listing listingResult) (answers (gives []))
+    ∷ storedCase (storedRound listing listingResult 0) (answers (gives (0 ∷ 105 ∷ 105 ∷ 4 ∷ 4 ∷ 2 ∷ [])))
+    ∷ storedCase (storedRound listing listingResult 1) (answers (gives (2 ∷ 105 ∷ 0 ∷ 0 ∷ 10 ∷ 2 ∷ [])))
+    -- past the last round
+    ∷ storedCase (storedRound listing listingResult 2) (answers (refuses 9 0))
+    -- another first word, another fill, another last word
+    ∷ storedCase (openStored listing (set listingResult 0 0xa0000001)) (differs 0)
+    ∷ storedCase (openStored listing (set listingResult 5 0xe0000005)) (differs 5)
+    ∷ storedCase (openStored listing (set listingResult 12 0xf0000003)) (differs 12)
+    -- no words, the last word missing, one word too many
+    ∷ storedCase (openStored listing []) (differs 0)
+    ∷ storedCase (openStored listing (take 12 listingResult)) (differs 12)
+    ∷ storedCase (openStored listing (listingResult ++ (0xf0000002 ∷ []))) (differs 13)
+    -- P3's result beside P1's sheet
+    ∷ storedCase (openStored listing (run 0 80 90 5 (5 ∷ 0 ∷ 5 ∷ []) ++ (0xf0020001 ∷ []))) (differs 1)
+    -- a difference comes before the number of the round, the sheet's faults before both
+    ∷ storedCase (storedRound listing (take 12 listingResult) 7) (differs 12)
+    ∷ storedCase (openStored (sheet (buy 4 95 ∷ sell 0 95 ∷ [])) listingResult) (answers (refuses 7 1))
+    ∷ storedCase (storedRound (sheet (buy 4 95 ∷ sell 0 95 ∷ [])) [] 7) (answers (refuses 7 1))
+    -- no orders: one round, with no fill words
+    ∷ storedCase (storedRound (sheet []) (run 4 100 0 0 [] ++ (0xf0000001 ∷ [])) 0) (answers (gives (4 ∷ 100 ∷ 0 ∷ 0 ∷ 4 ∷ 0 ∷ [])))
+    ∷ storedCase (storedRound (sheet []) (run 4 100 0 0 [] ++ (0xf0000001 ∷ [])) 1) (answers (refuses 9 0))
+    ∷ []
+
 -- ---- What the words of the listing's result say
 
 -- [12.5] The words of the listing's result, read.
@@ -481,6 +524,9 @@ pub record ListingSaid : Type 0 where
   -- over the opening order 0 gets 4 pieces, and 4 are bought
   pub pieces : piecesOver listing listingResult 0 ≡ 4
   pub bought : tradedOver Buy listing listingResult ≡ 4
+  -- the page of the second round; a view of no words has none, whatever the number of orders
+  pub secondPage : page 2 listingResult 1 ≡ gives (2 ∷ 105 ∷ 0 ∷ 0 ∷ [])
+  pub noPage : page 2 [] 0 ≡ refuses 9 0
   -- by 35 ten-thousandths both orders pay 15 hellers; where the call refuses there are no fees
   pub fees : feesGiven (tariffOf 35 0 100) listing (gives listingResult) ≡ gives (15 ∷ 15 ∷ [])
   pub noFees : feesGiven (tariffOf 35 0 100) listing (refuses 10 0) ≡ refuses 10 0
@@ -526,4 +572,31 @@ printings =
     ∷ prints (replicate 1468 0) "refused 12 0\n"
     -- a wrong kind in the listing's order 1
     ∷ prints (set listingBytes 32 0x50) "refused 5 1\n"
+    ∷ []
+
+-- ---- The archive program's text
+
+-- [12.7] Bytes of a sheet, the text of a stored result, and the text that the archive program prints.
+pub record Archiving : Type 0 where
+  pub bytes : List ℕ
+  pub result : String
+  pub text : String
+
+abbrev pub archives : List ℕ → String → String → Archiving
+archives bytes result text = record { bytes = bytes; result = result; text = text }
+
+abbrev pub AllArchive : List Archiving → Type 0
+AllArchive = Each (λ a. archived (a .bytes) (ascii (a .result)) ≡ ascii (a .text))
+
+-- [12.7] The listing's result, round by round; without its last line; one with a line too short; and a sheet that is refused.
+unfoldable pub archivings : List Archiving
+archivings =
+    archives listingBytes
+    "a0000000\nb0000069\nc0000069\nd0000004\ne0000004\ne0000004\na0000002\nb0000069\nc0000000\nd0000000\ne0000000\ne0000000\nf0000002\n"
+    "The stored words are those that the opening of this sheet writes.\nOrders: 2. Rounds: 2. Both are numbered from 0.\nPrices count tens of hellers, and the band is from 90 to 110.\nTotals, and what an order buys or sells, are pieces; an order that gets none in a round has no line there.\n\nRound 0\nSituation 0: demand and supply meet at some price.\nAuction price: 105, or 10.50 crowns.\nPurchase price: 105, or 10.50 crowns.\nTotal: 4.\nOrder 0 buys 4.\nOrder 1 sells 4.\n\nRound 1\nSituation 2: the band has demand alone.\nAuction price: 105, or 10.50 crowns.\nPurchase price: none.\nTotal: 0.\n\nEnding 0: in the last round demand and supply met at no price.\n"
+    ∷ archives listingBytes
+    "a0000000\nb0000069\nc0000069\nd0000004\ne0000004\ne0000004\na0000002\nb0000069\nc0000000\nd0000000\ne0000000\ne0000000\n"
+    "The stored words are not those that the opening of this sheet writes by the rules of this edition.\nThe first difference is at word 12, counted from 0: line 13 of the result, or its end.\n"
+    ∷ archives listingBytes "a000000\nb0000069\n" "The result is not as the opening program prints one: lines of eight digits, 0 to 9 or a to f, each ended by a newline, at most 15005.\n"
+    ∷ archives (0x10 ∷ []) "a000000" "refused 12 0\n"
     ∷ []

@@ -14,5 +14,7 @@ pub mod Fees
 pub mod Band
 pub mod Waiting
 pub mod Calls
+pub mod Stored
 pub mod Listing
+pub mod Pages
 pub mod Cases

@@ -8,6 +8,11 @@ unfoldable pub listed : {A : Type 0} → (ℕ → A) → ℕ → List A
 listed f zero = []
 listed f (suc n) = listed f n ++ (f n ∷ [])
 
+-- [1.6] the lists f 0, .., f (n - 1), one behind the other
+unfoldable pub joinedTo : {A : Type 0} → (ℕ → List A) → ℕ → List A
+joinedTo f zero = []
+joinedTo f (suc n) = joinedTo f n ++ f n
+
 -- [1.6] f 0 + .. + f (n - 1)
 unfoldable pub sumTo : (ℕ → ℕ) → ℕ → ℕ
 sumTo f zero = 0

@@ -19,23 +19,32 @@ use Rattle.rules.specs.declared.Standing.{Standing}
 abbrev pub count : List ℕ → ℕ
 count ws = headingOf ws .count
 
--- [8.1] The number of rounds: each has 4 + n words, and one word more ends the result.
+-- [8.1] The number of rounds in the words rs of a result of n orders: each has 4 + n words, and one word more ends the result.
+abbrev pub roundsFor : ℕ → List ℕ → ℕ
+roundsFor n rs = length rs / (n + 4)
+
 abbrev pub roundsIn : List ℕ → List ℕ → ℕ
-roundsIn ws rs = length rs / (count ws + 4)
+roundsIn ws rs = roundsFor (count ws) rs
 
 -- [8.1] The place of word j of round r.
-abbrev pub wordPlace : List ℕ → ℕ → ℕ → ℕ
-wordPlace ws r j = r * (count ws + 4) + j
+abbrev pub wordPlaceFor : ℕ → ℕ → ℕ → ℕ
+wordPlaceFor n r j = r * (n + 4) + j
 
--- [8.2] Round r, as its words say it.
-unfoldable pub roundSaid : List ℕ → List ℕ → ℕ → Round
-roundSaid ws rs r = record {
-  situation = wordAt rs (wordPlace ws r 0) .value;
-  price = wordAt rs (wordPlace ws r 1) .value;
-  purchase = wordAt rs (wordPlace ws r 2) .value;
-  total = wordAt rs (wordPlace ws r 3) .value;
-  fills = listed (λ k. wordAt rs (wordPlace ws r (4 + k)) .value) (count ws);
+abbrev pub wordPlace : List ℕ → ℕ → ℕ → ℕ
+wordPlace ws r j = wordPlaceFor (count ws) r j
+
+-- [8.2] Round r of n orders, as its words say it.
+abbrev pub roundSaidFor : ℕ → List ℕ → ℕ → Round
+roundSaidFor n rs r = record {
+  situation = wordAt rs (wordPlaceFor n r 0) .value;
+  price = wordAt rs (wordPlaceFor n r 1) .value;
+  purchase = wordAt rs (wordPlaceFor n r 2) .value;
+  total = wordAt rs (wordPlaceFor n r 3) .value;
+  fills = listed (λ k. wordAt rs (wordPlaceFor n r (4 + k)) .value) n;
 }
+
+unfoldable pub roundSaid : List ℕ → List ℕ → ℕ → Round
+roundSaid ws rs r = roundSaidFor (count ws) rs r
 
 -- [8.2] The auction that a round reports.
 abbrev pub auctionIn : Round → Auction

@@ -265,3 +265,43 @@ pub enum WaitingAnswer {
     Stands(Clock),
     Refused(Refusal),
 }
+
+// Clause 10.6a: where two lists of words first differ.
+pub enum Difference {
+    Nowhere,
+    At(usize),
+}
+
+// The answer of the call that opens a stored result beside its sheet: that it opens, the place of the first difference,
+// or a refusal.
+pub enum OpensAnswer {
+    Opened,
+    Different(usize),
+    Refused(Refusal),
+}
+
+// Clause 10.6c: what a round of a result says before its fills.
+pub struct Summary {
+    pub situation: u32,
+    pub price: Price,
+    pub purchase: Price,
+    pub total: Pieces,
+}
+
+// What a page of an opened result says.
+pub enum PageAnswer {
+    Says(Summary),
+    Refused(Refusal),
+}
+
+// The answer of the call that reads a round of a stored result: what it says, with the place of its first fill word and
+// how many there are; the place of the first difference; or a refusal.
+pub enum RoundAnswer {
+    Reads {
+        summary: Summary,
+        fills: usize,
+        count: usize,
+    },
+    Different(usize),
+    Refused(Refusal),
+}

@@ -1,10 +1,10 @@
 -- The places of an accepted sheet begin with its orders, so what the engine works out from heading and places is of the sheet.
 use mathlib.Core.List.{List}
-use mathlib.Core.Path.{_≡_, ap}
+use mathlib.Core.Path.{_≡_, sym, ap, _∙_}
 use Prim.Native.Nat.{ℕ, _-_, _≤_, _<_}
 use native.Mathlib.Omega.{arith}
 use lib.ListN.{length, replicate}
-use lib.Seq.{take-at}
+use lib.Seq.{take-at, getD-take}
 use Rattle.book.specs.Book.{stepping, Ranged}
 use Rattle.book.specs.Filed.{filedIn}
 use Rattle.lines.specs.Keys.{room}
@@ -28,6 +28,11 @@ module _ {ws : List ℕ} {h : Heading} {orders : List Order} (a : AcceptedAs ws 
       rw (a .headed, a .placed, a .passes)
       (take-at (ordersOf ws) (replicate (mostOrders - headingOf ws .count) noOrder) (headingOf ws .count)
       (length-listed _ (headingOf ws .count)))
+
+  -- and so each of its orders is in its place
+  pub own-order : (k : ℕ) → k < h .count → filed (ordersOf ws) k ≡ filed orders k
+  unfolding filedIn
+  own-order k own = ap (λ (os : List Order). filed os k) (sym orders-are) ∙ getD-take (h .count) orders k noOrder own
 
   pub count-is : h .count ≡ headingOf ws .count
   count-is = ap (λ (h : Heading). h .count) (a .headed)

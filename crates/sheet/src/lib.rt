@@ -4,6 +4,7 @@ mod orders;
 
 ghost use mathlib.Core.Path.{_≡_};
 ghost use Rattle.rules.specs.Answers.{checkAnswer};
+ghost use Rattle.rules.specs.Result.{count};
 ghost use Rattle.rules.specs.Sheet.{checkSheet};
 ghost use Rattle.sheet.specs.Reading.{ReadsAs};
 use heading::HeadingRead;
@@ -13,6 +14,7 @@ use orders::read_orders;
 use rules::Checked;
 use rules::Heading;
 use rules::Order;
+use words::word_of;
 
 // Clause 3.1: words of a heading without a step word, and of an order.
 pub(crate) const HEADING_WORDS: usize = 5;
@@ -44,4 +46,14 @@ pub fn check(words: &[u32]) -> Checked
 {
     let reading = read_sheet(words);
     reading.checked
+}
+
+// How many orders a sheet says that it has, be it accepted or not.
+pub fn order_count(words: &[u32]) -> usize
+    ensures { λ r. ⌜ r ≡ count (now (words .entry)) ⌝ }
+{
+    if words.len() < HEADING_WORDS {
+        return 0;
+    }
+    word_of(words[4]).value as usize
 }

@@ -2,4 +2,6 @@
 pub mod Fronts
 pub mod Figures
 pub mod Printing
+pub mod Reading
+pub mod ReadsBack
 pub mod Program

@@ -19,7 +19,7 @@ line-in-front small fewest e p = rw (e, hex-digits small fewest) at p
 
 -- ---- The lines of words
 
-length-line : (w : ℕ) → length (wordLine w) ≡ 9
+pub length-line : (w : ℕ) → length (wordLine w) ≡ 9
 unfolding wordLine
 length-line w = refl
 
@@ -31,7 +31,7 @@ unfolding wordLines
 lines-more [] w = append-nil (wordLine w)
 lines-more (x ∷ ws) w = rw (lines-more ws w) (sym (append-assoc (wordLine x) (wordLines ws) (wordLine w)))
 
-length-lines : (ws : List ℕ) → length (wordLines ws) ≡ 9 * length ws
+pub length-lines : (ws : List ℕ) → length (wordLines ws) ≡ 9 * length ws
 unfolding wordLines
 length-lines [] = refl
 length-lines (w ∷ ws) = simp length-append (omega (arith, length-line w, length-lines ws))

@@ -6,7 +6,7 @@ ghost use Rattle.rules.specs.Listing.{inputFits, wordIn, sheetIn};
 use crate::MOST_BYTES;
 
 // Refusal 12, by clause 11.1.
-pub(crate) fn input_fits(bytes: &[u8]) -> bool
+pub fn input_fits(bytes: &[u8]) -> bool
     ensures { λ r. ⌜ r ≡ inputFits (now (bytes .entry)) ⌝ }
 {
     (bytes.len() % 4 == 0) & (bytes.len() <= MOST_BYTES)
@@ -32,7 +32,7 @@ fn word_in(bytes: &[u8], i: usize) -> u32
 }
 
 // All words, into a space of just as many.
-pub(crate) fn read_words(bytes: &[u8], words: &mut [u32])
+pub fn read_words(bytes: &[u8], words: &mut [u32])
     requires { ⌜ 4 * length (now words) ≡ length (now bytes) ⌝ }
     ensures { λ _. ⌜ now (words .exit) ≡ sheetIn (now (bytes .entry)) ⌝ }
 {

@@ -1,16 +1,17 @@
 // Clauses 11.1–11.5: the opening program but for its reading and writing, from the bytes that it
-// reads to the text that it prints.
-mod input;
-mod lines;
+// reads to the text that it prints. And clause 11.6: such a text, read back into the words of a result.
+pub mod input;
+pub mod lines;
+pub mod listing;
 
 ghost use Prim.Native.Nat.{_≤_, _*_, _/_};
 ghost use mathlib.Core.Path.{_≡_};
 ghost use lib.ListN.{length};
+ghost use Rattle.claims.specs.Fits.{Within};
 ghost use Rattle.rules.specs.Answers.{gives, downwards, spaceAnswer};
 ghost use Rattle.rules.specs.Listing.{mostBytes, sheetIn, printedAnswer, InFront, Printed};
 ghost use Rattle.rules.specs.Opening.{openingWords};
 ghost use Rattle.rules.specs.Sheet.{sheetChecks};
-ghost use Rattle.text.specs.Steps.{Within};
 use input::input_fits;
 use input::read_words;
 use lines::write_lines;
@@ -22,14 +23,14 @@ use rules::SpaceAnswer;
 pub const MOST_BYTES: usize = 1464;
 
 // Room for the words of the longest sheet.
-fn sheet_space() -> [u32; MOST_BYTES / 4]
+pub fn sheet_space() -> [u32; MOST_BYTES / 4]
     ensures { λ r. ⌜ mostBytes / 4 ≡ length r ⌝ }
 {
     [0; MOST_BYTES / 4]
 }
 
 // Room for the result of an opening of 120 orders, 121 × 124 + 1 words.
-fn result_space() -> [u32; 15005]
+pub fn result_space() -> [u32; 15005]
     ensures { λ r. ⌜ 15005 ≡ length r ⌝ }
 {
     [0; 15005]

@@ -64,7 +64,7 @@ fn write_refused(number: u64, place: u64, out: &mut [u8]) -> usize
 }
 
 // The line of a refusal.
-pub(crate) fn write_refusal(refusal: Refusal, out: &mut [u8]) -> usize
+pub fn write_refusal(refusal: Refusal, out: &mut [u8]) -> usize
     requires { ⌜ 50 ≤ length (now out) ⌝ }
     ensures { λ r. ⌜ InFront (printedAnswer (refused refusal)) (now (out .entry)) (now (out .exit)) r ⌝ }
 {

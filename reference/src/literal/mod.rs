@@ -4,6 +4,7 @@ pub mod fills;
 pub mod limits;
 pub mod opening;
 pub mod price;
+pub mod stored;
 
 use crate::sheet::{Grid, Pieces, Price, Sheet};
 

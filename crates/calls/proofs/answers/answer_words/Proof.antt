@@ -1,4 +1,4 @@
--- `answer_words` is safe and ends: the words stay an array of 2048. The measure is the number of words left.
+-- `answer_words` is safe and ends: the words stay an array of 16,384. The measure is the number of words left.
 use mathlib.Core.Path.{_≡_}
 use Prim.Native.Nat.{_-_, _≤_}
 use native.Mathlib.Omega.{arith}
@@ -8,7 +8,7 @@ use Rattle.calls.proofs.answers.answer_words.Statement.{statement}
 use Rattle.calls.proofs.answers.answer_words.Tie as tie
 
 abbrev Inv-loop : tie.InvT-loop
-Inv-loop call numbers fields count words₀ i₀ words i = (i ≤ count) × (length words ≡ 2048)
+Inv-loop call numbers fields count words₀ i₀ words i = (i ≤ count) × (length words ≡ 16384)
 
 abbrev μ-loop : tie.MeasureT-loop
 μ-loop call numbers fields count words₀ i₀ words i = count - i

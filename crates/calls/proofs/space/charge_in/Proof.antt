@@ -20,8 +20,8 @@ slice-aggregate-print-words c = simp length-take (omega arith)
 print-words-requires : tie.Need-print-words-requires
 print-words-requires c κs = search needs
 
-orders-on-requires : tie.Need-orders-on-requires
-orders-on-requires c κs = search needs
+order-count-requires : tie.Need-order-count-requires
+order-count-requires c κs = search needs
 
 slice-reshare-prefix-print-fees : tie.Need-slice-reshare-prefix-print-fees
 slice-reshare-prefix-print-fees c = search needs
@@ -74,7 +74,7 @@ charge-in-spec =
     slice-reshare-prefix-print-words
     slice-aggregate-print-words
     print-words-requires
-    orders-on-requires
+    order-count-requires
     slice-reshare-prefix-print-fees
     slice-aggregate-print-fees
     print-fees-requires

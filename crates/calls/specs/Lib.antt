@@ -1,0 +1,2 @@
+-- What the program's one function that holds a view promises.
+pub mod Viewed

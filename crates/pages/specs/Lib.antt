@@ -1,0 +1,2 @@
+-- What the functions of this crate hand to each other.
+pub mod Steps
