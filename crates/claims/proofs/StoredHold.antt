@@ -18,7 +18,7 @@ use Rattle.rules.specs.Calls.{opening, answerBy, answer, wordsGiven}
 use Rattle.rules.specs.Opening.{openingWords, openingSpace}
 use Rattle.rules.specs.Result.{count, roundSaidFor, roundSaid}
 use Rattle.rules.specs.Sheet.{sheetChecks, checkSheet, AcceptedSheet}
-use Rattle.rules.specs.Stored.{firstDifference, answers, differs, unlessDifferent, beside, openingOf, summaryOf, stretchOf, onRound, page, openStored, storedRound, storedBy, storedAnswer}
+use Rattle.rules.specs.Stored.{StoredAnswer, firstDifference, answers, differs, unlessDifferent, beside, openingOf, summaryOf, stretchOf, onRound, page, openStored, storedRound, storedBy, storedAnswer}
 use Rattle.rules.specs.declared.Difference.{Difference}
 use Rattle.rules.specs.declared.Difference.the-variants.{Nowhere, At}
 
@@ -34,8 +34,22 @@ given-beside (gives words) stored e = ap gives (sym (same-lists stored words (sa
 given-beside (refuses n k) stored e = cc
 
 -- beside what the opening gives all is answered
-pub beside-given : (stored : List ℕ) (a : Answer) → beside (gives stored) stored a ≡ answers a
+beside-given : (stored : List ℕ) (a : Answer) → beside (gives stored) stored a ≡ answers a
 beside-given stored a = rw (no-difference stored)
+
+-- where opening is answered x: a, if the result opens; a refusal or a difference is the answer of both calls
+abbrev pub whereOpened : StoredAnswer → Answer → StoredAnswer
+whereOpened (answers (gives vs)) a = answers a
+whereOpened (answers (refuses n k)) a = answers (refuses n k)
+whereOpened (differs place) a = differs place
+
+unless-where : (d : Difference) (a : Answer) → whereOpened (unlessDifferent d (gives [])) a ≡ unlessDifferent d a
+unless-where Nowhere a = refl
+unless-where (At place) a = refl
+
+beside-where : (o : Answer) (stored : List ℕ) (a : Answer) → whereOpened (beside o stored (gives [])) a ≡ beside o stored a
+beside-where (gives words) stored a = unless-where (firstDifference stored words) a
+beside-where (refuses n k) stored a = refl
 
 -- a difference is at most at the end of the stored words
 different-found : (d : Difference) {p : ℕ} → unlessDifferent d (gives []) ≡ differs p → d ≡ At p
@@ -82,18 +96,20 @@ module _ (ws stored : List ℕ) where
   unfolding storedAnswer storedBy
   different-within e = different-beside (answer (openingOf ws)) stored e
 
-  module _ (opens : OpensBeside ws stored) where
-    round-answer : (r : ℕ) → storedAnswer (storedRound ws stored r)
-        ≡ answers (onRound (count ws) stored r (summaryOf (roundSaidFor (count ws) stored r) ++ stretchOf (count ws) r))
-    unfolding storedAnswer storedBy
-    round-answer r = rw (given-opens opens) (beside-given stored _)
+  -- what a round is answered, by what opening is
+  pub round-where : (r : ℕ) {x : StoredAnswer} → x ≡ storedAnswer (openStored ws stored)
+      → whereOpened x (onRound (count ws) stored r (summaryOf (roundSaidFor (count ws) stored r) ++ stretchOf (count ws) r))
+      ≡ storedAnswer (storedRound ws stored r)
+  unfolding storedAnswer storedBy
+  round-where r told = rw told (beside-where (answer (openingOf ws)) stored _)
 
+  module _ (opens : OpensBeside ws stored) where
     pub read-as-said : ReadAsSaid ws stored
     unfolding page roundSaid
     read-as-said = record {
       demand3 = rw (given-words _ (given-opens opens)) (demand3-holds ws (given-accepted _ (given-opens opens)));
       pages = λ r there. round-there (count ws) stored r _ there;
-      rounds = λ r there. round-answer r ∙ ap answers (round-there (count ws) stored r _ there);
+      rounds = λ r there. sym (round-where r (sym opens)) ∙ ap answers (round-there (count ws) stored r _ there);
       fills = λ r k own. rw (add-assoc (r * (count ws + 4)) 4 k) (sym (getD-listed _ (count ws) k 0 own));
-      beyond = λ r past. round-answer r ∙ ap answers (round-beyond (count ws) stored r _ past);
+      beyond = λ r past. sym (round-where r (sym opens)) ∙ ap answers (round-beyond (count ws) stored r _ past);
     }

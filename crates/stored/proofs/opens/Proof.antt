@@ -1,13 +1,19 @@
 -- `opens` meets its contract: 15,005 words are enough for every opening, so what it answers is what it answers with just its space.
-use mathlib.Core.List.{[]}
-use mathlib.Core.Path.{ap, _∙_}
+use mathlib.Core.List.{List, []}
+use mathlib.Core.Path.{_≡_, ap, sym, _∙_}
+use Prim.Native.Nat.{ℕ}
+use native.Mathlib.Nat.{le-refl}
 use borrow.Author.Needs.{needs}
 use Rattle.auction.proofs.Spaces.{written-within}
+use Rattle.claims.proofs.CallsHold.{opening-checked, most-asked}
 use Rattle.rules.specs.Answers.{Answer, gives}
-use Rattle.rules.specs.Stored.{beside, storedBy, storedAnswer}
-use Rattle.stored.proofs.Answered.{enough-lent}
+use Rattle.rules.specs.Calls.{opening, answer}
+use Rattle.rules.specs.Stored.{beside, openingOf, storedBy, storedAnswer}
 use Rattle.stored.proofs.opens.Statement.{statement}
 use Rattle.stored.proofs.opens.Tie as tie
+
+enough-lent : (ws : List ℕ) → answer (opening ws 15005) ≡ answer (openingOf ws)
+enough-lent ws = opening-checked ws (most-asked ws) ∙ sym (opening-checked ws (λ accepted. le-refl _))
 
 slice-aggregate-opening : tie.Need-slice-aggregate-opening
 slice-aggregate-opening c = search needs

@@ -1,7 +1,7 @@
--- `read_round` meets its contract: a difference or a refusal is what it is for `opens`, and of a result that opens the round is read.
+-- `read_round` meets its contract: in each case of what `opens` answers it answers by `round-where`.
 use mathlib.Core.Path.{_∙_}
-use Rattle.stored.proofs.Answered.{round-opened, round-different, round-refused}
 use borrow.Author.Needs.{needs}
+use Rattle.claims.proofs.StoredHold.{round-where}
 use Rattle.stored.proofs.read_round.Statement.{statement}
 use Rattle.stored.proofs.read_round.Tie as tie
 
@@ -28,21 +28,21 @@ returns c =
     let opened = c .before .before .before .before in
     let args = opened .before .before .before .args in
     let told = rw (c .before .before .enum-told .given .1) at (opened .opens .ensures) in
-    c .round-at .ensures ∙ rw (c .before .order-count .ensures) (round-opened (args .sheet .now) (args .stored .now) (args .round) told)
+    c .round-at .ensures ∙ rw (c .before .order-count .ensures) (round-where (args .sheet .now) (args .stored .now) (args .round) told)
 
 returns-2 : tie.Need-returns-2
 returns-2 c =
     let opened = c .before .before .before in
     let args = opened .before .before .before .args in
     let told = rw (c .before .place .given .1) at (opened .opens .ensures) in
-    round-different (args .sheet .now) (args .stored .now) (args .round) told
+    round-where (args .sheet .now) (args .stored .now) (args .round) told
 
 returns-3 : tie.Need-returns-3
 returns-3 c =
     let opened = c .before .before .before in
     let args = opened .before .before .before .args in
     let told = rw (c .before .refusal .given .1) at (opened .opens .ensures) in
-    round-refused (args .sheet .now) (args .stored .now) (args .round) told
+    round-where (args .sheet .now) (args .stored .now) (args .round) told
 
 pub read-round-spec : {M : Type 1} → statement M
 read-round-spec =
