@@ -244,8 +244,9 @@ struct auction_price auction_indicative_price(uint32_t lower, uint32_t upper, ui
 struct auction_band auction_next_band(uint32_t code, uint32_t indicative);
 
 /* The band after waiting: the upper bound (side 0) or the lower (side 1) moved out by a tenth of itself, rounded towards
- * where it was, so that a bound below 10 does not move; the other stays. 9 for another side, or if the bounds are no band;
- * 11 if the upper bound would be off the grid. */
+ * where it was, but by 1 at least, so that a bound below 10 moves by 1; only a lower bound of 1 stays. The other bound is
+ * given as it was. 9 for another side, or if the bounds are no band; 11 if the upper bound, so moved, would be off the
+ * grid. */
 struct auction_band auction_widened_band(uint32_t lower, uint32_t upper, uint32_t side);
 
 /* The waiting clock: what the words of a waiting list lead to, from a starting band on. `phase` is 1 during a waiting

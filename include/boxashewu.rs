@@ -417,8 +417,8 @@ pub fn next_band(code: u32, indicative: u32) -> Result<Band, Refusal> {
     )
 }
 
-/// The band with its upper bound (side 0) or its lower (side 1) a tenth further out; a bound below 10 does not move. 9 for another
-/// side, or if the bounds are no band; 11 if the upper bound would be off the grid.
+/// The band with its upper bound (side 0) or its lower (side 1) a tenth further out, and at least 1; only a lower bound of 1 stays.
+/// 9 for another side, or if the bounds are no band; 11 if the upper bound, so moved, would be off the grid.
 pub fn widened_band(lower: u32, upper: u32, side: u32) -> Result<Band, Refusal> {
     let reply = unsafe { raw::auction_widened_band(lower, upper, side) };
     answered(

@@ -177,8 +177,13 @@ def coverage(lines, answers):
         elif line.startswith("fees"):
             fees = [int(fee) for fee in answer.split(" fees")[1].split()]
             seen[f"openings with fees in which {'an order pays' if any(fees) else 'nobody pays'}"] += 1
+        elif line.startswith("widen"):
+            lower, upper, side = map(int, line.split()[1:])
+            seen[f"widenings of a bound {'below 10' if (upper, lower)[side] < 10 else 'of 10 and more'}"] += 1
         elif line.startswith("waiting"):
-            phase, *_, due = answer.split()
+            phase, _, _, *band, due = answer.split()
+            if any(int(before) < 10 and before != after for before, after in zip(line.split()[1:], band)):
+                seen["waiting lists that widen a bound below 10"] += 1
             seen.update([f"waiting lists to a phase {'that is on' if phase == '1' else 'that is over, or to none'}",
                          f"waiting lists with {min(int(due), 2)}{' and more' * (int(due) > 1)} openings due"])
     return seen

@@ -1,7 +1,7 @@
 #!/usr/bin/env python3
 """Picks stored lines for the program `calls` from random ones of the reference implementation.
 
-usage: store.py KIND SEED LINES ANSWERS     KIND as in `reference sheets KIND COUNT SEED`, or step
+usage: store.py KIND SEED LINES ANSWERS     KIND as in `reference sheets KIND COUNT SEED`, step, or widen
 
 Of the random lines it takes the first 200 of small sheets (up to 30 orders), the first 40 of large ones (100 orders and more)
 and the first 8 of each refusal (up to 40 orders), and appends them to the file LINES and the reference implementation's answers
@@ -16,7 +16,9 @@ and takes only those whose sheet has the length of one with a step word: of each
 of all together 40 for which the step word is wrong. Of rounds of stored results, in lines of up to 20,000 bytes, it takes 20 of small
 sheets with a result of one round, 20 of two and 20 of three or more, and 12 of large sheets; 24 of rounds past the last; of up to 40
 orders, 24 where the result differs within, 8 where words are missing and 8 where there are too many; 3 of each refusal of the sheet;
-and 8 in which the sheet is said to have more words than there are.
+and 8 in which the sheet is said to have more words than there are. For `widen` it goes through random lines of the band's calls and of
+the waiting clock: of widenings it takes 40 of a bound below 10, 16 of others and 8 of each refusal; of waiting lists that widen a bound
+below 10, 12 each with 1, 2 to 9 and more openings due, and 8 from an upper bound below 10 to refusal 11.
 """
 import collections
 import pathlib
@@ -36,7 +38,8 @@ def reference(*words, given=None):
 
 ON_A_SHEET = ("check", "stepper", "curves", "round", "opening", "fees")
 count = {"round": "12000", "opening": "20000", "fees": "12000"}.get(kind, "3000")
-lines = "".join(reference("sheets", call, count, seed) for call in (ON_A_SHEET if kind == "step" else [kind]))
+DRAWN = {"step": ON_A_SHEET, "widen": ("band", "waiting")}
+lines = "".join(reference("sheets", call, count, seed) for call in DRAWN.get(kind, [kind]))
 answers = reference("calls", given=lines).splitlines()
 
 ROUNDS = ("1 round", "2 rounds", "3 rounds and more")
@@ -60,6 +63,8 @@ if kind == "view":
     MOST |= {number: 3 for number in ("1", "2", "3", "15", "17", "4", "5", "6", "7", "8")}
 if kind == "step":
     MOST = {f"{call}, {size}": most for call in ON_A_SHEET for size, most in {"small": 36, "large": 5}.items()} | {"17": 40}
+if kind == "widen":
+    MOST = {"below 10": 40, "10 and more": 16} | {f"list, {due} due": 12 for due in ("1", "2 to 9", "more")}
 LONGEST = 20000 if kind == "view" else 4096
 
 
@@ -100,7 +105,26 @@ def waiting_sort(line, answer):
         return answer.split()[1]
     phase, *_, due = answer.split()
     size = "short" if len(line.split()) <= 63 else "long"
-    return f"{size}, phase {phase}, {due if int(due) < 2 else '2 to 9' if int(due) < 10 else 'more'} due"
+    return f"{size}, phase {phase}, {due_sort(due)}"
+
+
+def due_sort(due):
+    return f"{due if int(due) < 2 else '2 to 9' if int(due) < 10 else 'more'} due"
+
+
+def widen_sort(line, answer):
+    """What a widening is picked as, and a waiting list that widens a bound below 10."""
+    call, *band = line.split()[:3]
+    said = answer.split()
+    if call == "widen":
+        moved = dict(zip("01", reversed(band))).get(line.split()[3])
+        return said[1] if said[0] == "refused" else "below 10" if int(moved) < 10 else "10 and more"
+    if call != "waiting":
+        return None
+    if said[0] == "refused":
+        return "list, 11" if said[1] == "11" and int(band[1]) < 10 else None
+    moved = any(int(before) < 10 and before != after for before, after in zip(band, said[3:5]))
+    return f"list, {due_sort(said[5])}" if moved else None
 
 
 def view_sort(line, answer):
@@ -130,6 +154,8 @@ def sort_of(line, answer):
         return waiting_sort(line, answer)
     if kind == "view":
         return view_sort(line, answer)
+    if kind == "widen":
+        return widen_sort(line, answer)
     call = line.split()[0]
     words = line.split()[{"check": 1, "fees": 6}.get(call, 2):]
     orders = (len(words) - 5) // 3

@@ -2,11 +2,15 @@
 
 use crate::answer::space_of_opening;
 use crate::chains::steady_chain;
-use crate::days::{damage_day, random_day};
+use crate::days::{damage_day, day_of_small_band, random_day};
 use crate::fees::{Tariff, MOST_FEE, RATE_PARTS};
 use crate::random::Random;
 use crate::shapes::{mirrored, random_sheet, sheet_by_lot, Sizes, LOTS, SLOW_LOTS};
 use crate::sheet::{Grid, Pieces, Sheet, LAST_PRICE, MOST_ORDERS, MOST_PIECES};
+use crate::waiting::{LAST_SECOND, WAIT};
+
+/// A band is small with its upper bound up to here, a little above 10, where a tenth comes to 1.
+const SMALL_UPPER: u64 = 12;
 
 /// Up to 120 orders and a million pieces.
 fn large_sizes(random: &mut Random) -> Sizes {
@@ -244,11 +248,26 @@ pub fn next(random: &mut Random) -> (u64, u64) {
     (code, band_price(random))
 }
 
-/// The band and the side of a widening.
+/// The band and the side of a widening, one in five of a small band. That and the side have their
+/// own draws, so that the other calls drawn along with it do not depend on how many these are.
 pub fn widening(random: &mut Random) -> ((u64, u64), u64) {
-    let band = band_bounds(random);
-    let side = random.pick(&[0, 1, 0, 1, 0, 1, 0, 1, 2, 1_u64 << 32]);
+    let any = band_bounds(random);
+    let mut own = Random::new(random.next());
+    let band = match own.one_in(5) {
+        true => small_band(&mut own),
+        false => any,
+    };
+    let side = own.pick(&[0, 1, 0, 1, 0, 1, 0, 1, 2, 1_u64 << 32]);
     (band, side)
+}
+
+/// Both bounds small and D below H, each such band as likely as any other.
+fn small_band(random: &mut Random) -> (u64, u64) {
+    let one = random.between(1, SMALL_UPPER);
+    let other = random.between(1, SMALL_UPPER - 1);
+    // The first one is left out of the second draw.
+    let other = if other < one { other } else { other + 1 };
+    (one.min(other), one.max(other))
 }
 
 /// Most often D below H.
@@ -285,7 +304,11 @@ pub struct Waited {
 /// About one list in six has faults.
 pub fn waiting(random: &mut Random) -> Waited {
     let band = waiting_band(random);
-    let mut words = random_day(random);
+    let small = band.1 <= SMALL_UPPER;
+    let mut words = match small && random.one_in(4) {
+        true => day_of_small_band(random),
+        false => random_day(random),
+    };
     if random.one_in(6) {
         damage_day(random, &mut words);
     }
@@ -293,7 +316,7 @@ pub fn waiting(random: &mut Random) -> Waited {
 }
 
 /// A starting band: of any sort, and at times none; with an H that some widenings bring to the
-/// end of the grid; of prices too small to move, or nearly; or around a middling price.
+/// end of the grid; of prices so small that they move by 1; or around a middling price.
 fn waiting_band(random: &mut Random) -> (u64, u64) {
     match random.below(8) {
         0 | 1 => band_bounds(random),
@@ -302,10 +325,7 @@ fn waiting_band(random: &mut Random) -> (u64, u64) {
             let any = random.between(1, upper - 1);
             (random.pick(&[any, any, any.min(9), upper - 1]), upper)
         }
-        5 => {
-            let lower = random.between(1, 10);
-            (lower, random.between(lower + 1, 12))
-        }
+        5 => small_band(random),
         _ => {
             let lower = random.between(20, 400_000);
             (lower, lower + random.between(1, lower / 2))
@@ -313,11 +333,20 @@ fn waiting_band(random: &mut Random) -> (u64, u64) {
     }
 }
 
-/// The highest H that can be widened so many times, or the next above it, which cannot.
+/// The highest H that can be widened so many times, or the next above it, which cannot. A day has
+/// time for more widenings than any H can take; beyond those it is the lowest H.
 fn upper_that_runs_out(random: &mut Random) -> u64 {
     let last = u64::from(LAST_PRICE);
-    let (few, any) = (random.between(0, 12), random.between(0, 130));
+    let most = u64::from(LAST_SECOND / WAIT);
+    let (few, any) = (random.between(0, 12), random.between(0, most));
     let times = random.pick(&[0, 1, 1, 2, 2, 3, few, any]);
-    let highest = (0..times).fold(last, |upper, _| (10 * upper + 9) / 11);
+    let highest = (0..times).fold(last, |upper, _| upper_before(upper));
     random.pick(&[highest, highest, highest + 1]).min(last)
+}
+
+/// The highest H that a widening brings no further than this one, be it by the tenth or by 1. It is
+/// never below 2, as a band needs a D below its H.
+pub fn upper_before(upper: u64) -> u64 {
+    let by_tenth = (10 * upper + 9) / 11;
+    by_tenth.min(upper - 1).max(2)
 }

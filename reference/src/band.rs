@@ -60,15 +60,30 @@ pub fn next_band(code: u64, indicative: u64) -> Result<(Price, Price), Refusal> 
     Ok((new_bound(lower)?, new_bound(upper)?))
 }
 
-/// After waiting one bound moves out by a tenth of itself, rounded towards where it was: H for
-/// side 0, D for side 1.
+/// After waiting one bound moves out: H for side 0, D for side 1.
 pub fn widening(lower: u64, upper: u64, side: u64) -> Result<(Price, Price), Refusal> {
     let (lower, upper) = band(Grid::DOCUMENT, lower, upper)?;
     match side {
-        0 => Ok((lower, new_bound(11 * u64::from(upper.0) / 10)?)),
-        1 => Ok((new_bound((9 * u64::from(lower.0)).div_ceil(10))?, upper)),
+        0 => Ok((lower, new_bound(widened_upper(upper.0.into()))?)),
+        1 => Ok((new_bound(widened_lower(lower.0.into()))?, upper)),
         _ => Err(ARGUMENT),
     }
+}
+
+/// Up by a tenth, rounded down, and by at least 1 (02 (6)): the tenth of a bound below 10 comes
+/// to nothing.
+fn widened_upper(upper: u64) -> u64 {
+    let by_tenth = 11 * upper / 10;
+    by_tenth.max(upper + 1)
+}
+
+/// Down by a tenth, rounded up, and by at least 1 unless it is already 1 (02 (6)).
+fn widened_lower(lower: u64) -> u64 {
+    if lower == 1 {
+        return 1;
+    }
+    let by_tenth = (9 * lower).div_ceil(10);
+    by_tenth.min(lower - 1)
 }
 
 /// A new bound off the grid, which only an upper one can be, is the band's refusal.

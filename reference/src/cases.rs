@@ -1,12 +1,14 @@
-//! The listing, the cases P1–P12, the table of refusals, the quotation step, the fees, and the waiting
-//! clock; stored results and their archive by themselves. The cases' openings, limits in force and
-//! stored results are worked out in both ways; bands, refusals, fees and the clock have only one.
+//! The listing, the cases P1–P12, widened bounds, the table of refusals, the quotation step, the fees,
+//! and the waiting clock; stored results and their archive by themselves. The cases' openings, limits
+//! in force and stored results are worked out in both ways; bands, refusals, fees and the clock have
+//! only one.
 
 mod archive;
 mod stored;
 
 use crate::answer::{hexadecimal, space_of_opening, space_of_round, Opening, Round};
-use crate::arguments::{order_for, price_for, quick_sheet};
+use crate::arguments::{order_for, price_for, quick_sheet, upper_before};
+use crate::band::widening;
 use crate::calls::{answer_line, opening_program};
 use crate::chains::{chain_sheet, steady_chain};
 use crate::damage::damage;
@@ -218,6 +220,194 @@ fn p12_bands() {
     for (line, answer) in answers {
         assert_eq!(answer_line(line), answer, "{line}");
     }
+}
+
+/// H, and what side 0 makes of it.
+const WIDENED_UPPERS: [(u32, u32); 20] = [
+    // 2.2 to 9.9 rounded down are what they were, so that they go up by 1.
+    (2, 3),
+    (3, 4),
+    (4, 5),
+    (5, 6),
+    (6, 7),
+    (7, 8),
+    (8, 9),
+    (9, 10),
+    // From here on the tenth is enough: 11.0, 12.1, 13.2.
+    (10, 11),
+    (11, 12),
+    (12, 13),
+    // 20.9, 22.0, 23.1: 19 is the last that goes up by 1.
+    (19, 20),
+    (20, 22),
+    (21, 23),
+    // 108.9, 110.0, 111.1.
+    (99, 108),
+    (100, 110),
+    (101, 111),
+    // 999,997.9; 999,999.0; 1,000,000.1, the last on the grid.
+    (909_089, 999_997),
+    (909_090, 999_999),
+    (909_091, 1_000_000),
+];
+
+/// D, and what side 1 makes of it.
+const WIDENED_LOWERS: [(u32, u32); 21] = [
+    // It cannot go lower.
+    (1, 1),
+    // 1.8 to 8.1 rounded up are what they were, so that they go down by 1.
+    (2, 1),
+    (3, 2),
+    (4, 3),
+    (5, 4),
+    (6, 5),
+    (7, 6),
+    (8, 7),
+    (9, 8),
+    // From here on the tenth is enough: 9.0, 9.9, 10.8.
+    (10, 9),
+    (11, 10),
+    (12, 11),
+    // 17.1, 18.0, 18.9: 19 is the last that goes down by 1.
+    (19, 18),
+    (20, 18),
+    (21, 19),
+    // 89.1, 90.0, 90.9.
+    (99, 90),
+    (100, 90),
+    (101, 91),
+    // 899,991.0; 899,998.2; 899,999.1.
+    (999_990, 899_991),
+    (999_998, 899_999),
+    (999_999, 900_000),
+];
+
+#[test]
+fn widened_bounds() {
+    for (upper, widened) in WIDENED_UPPERS {
+        // D stays where it is, far below H or next to it.
+        for lower in [1, upper - 1] {
+            let line = format!("widen {lower} {upper} 0");
+            assert_eq!(answer_line(&line), format!("{lower} {widened}"), "{line}");
+        }
+    }
+    for (lower, widened) in WIDENED_LOWERS {
+        // And H does, next to D or far above it.
+        for upper in [lower + 1, 1_000_000] {
+            let line = format!("widen {lower} {upper} 1");
+            assert_eq!(answer_line(&line), format!("{widened} {upper}"), "{line}");
+        }
+    }
+}
+
+#[test]
+fn widenings_refused() {
+    let answers = [
+        // 1,000,001.2; 1,099,998.9; 1,100,000.0.
+        ("widen 1 909092 0", "refused 11 0"),
+        ("widen 909091 909092 0", "refused 11 0"),
+        ("widen 1 999999 0", "refused 11 0"),
+        ("widen 1 1000000 0", "refused 11 0"),
+        ("widen 999999 1000000 0", "refused 11 0"),
+        // A lower bound that cannot move is not refused, whatever H is.
+        ("widen 1 2 1", "1 2"),
+        ("widen 1 9 1", "1 9"),
+        ("widen 1 909092 1", "1 909092"),
+        ("widen 1 1000000 1", "1 1000000"),
+        // No band and no side, which come first; the last three would do if cut down to 32 bits.
+        ("widen 1 1 0", "refused 9 0"),
+        ("widen 1 1 1", "refused 9 0"),
+        ("widen 5 5 1", "refused 9 0"),
+        ("widen 6 5 0", "refused 9 0"),
+        ("widen 0 1 1", "refused 9 0"),
+        ("widen 0 5 0", "refused 9 0"),
+        ("widen 1 0 1", "refused 9 0"),
+        ("widen 1 1000001 0", "refused 9 0"),
+        ("widen 1000000 1000000 0", "refused 9 0"),
+        ("widen 1 5 2", "refused 9 0"),
+        ("widen 1 1000000 2", "refused 9 0"),
+        ("widen 4294967297 5 1", "refused 9 0"),
+        ("widen 1 4294967301 0", "refused 9 0"),
+        ("widen 1 5 4294967296", "refused 9 0"),
+    ];
+    for (line, answer) in answers {
+        assert_eq!(answer_line(line), answer, "{line}");
+    }
+}
+
+#[test]
+fn bounds_from_ten_on_widen_as_before() {
+    let widened = |lower, upper, side| match widening(lower, upper, side) {
+        Ok((lower, upper)) => Ok((u64::from(lower.0), u64::from(upper.0))),
+        Err(refusal) => Err(refusal.number),
+    };
+    let last = 1_000_000;
+    let mut refused = 0;
+    for upper in 10..=last {
+        // Before, the tenth was all that a bound moved by.
+        let former = match 11 * upper / 10 {
+            off_grid if off_grid > last => Err(11),
+            tenth => Ok((1, tenth)),
+        };
+        assert_eq!(widened(1, upper, 0), former, "{upper}");
+        refused += u32::from(former.is_err());
+    }
+    // Those from 909,092 on. None below 10 was refused.
+    assert_eq!(refused, 90_909);
+    for upper in 2..10 {
+        assert!(widened(1, upper, 0).is_ok(), "{upper}");
+    }
+    for lower in 10..last {
+        let former = (9 * lower + 9) / 10;
+        assert_eq!(widened(lower, last, 1), Ok((former, last)), "{lower}");
+    }
+    // As a lower bound the last price has no H above it.
+    assert_eq!(widened(last, last, 1), Err(9));
+}
+
+#[test]
+fn uppers_before_a_widening() {
+    let rows = [
+        // 20.9 is within 21 and 22.0 is not.
+        (22, 20),
+        (21, 19),
+        (20, 19),
+        (12, 11),
+        (11, 10),
+        // Here the tenth comes to nothing; 2 is the lowest H.
+        (10, 9),
+        (9, 8),
+        (8, 7),
+        (3, 2),
+        (2, 2),
+    ];
+    for (upper, before) in rows {
+        assert_eq!(upper_before(upper), before, "{upper}");
+    }
+    // Widened it reaches no further, and the next one does or leaves the grid.
+    for upper in 3..=1_000_000 {
+        let reach = |before| widening(1, before, 0).map_or(u64::MAX, |band| band.1 .0.into());
+        let before = upper_before(upper);
+        assert!(reach(before) <= upper, "{upper}");
+        assert!(reach(before + 1) > upper, "{upper}");
+    }
+}
+
+#[test]
+fn random_widenings_of_small_bands() {
+    let mut random = Random::new(7);
+    let bands = (1..12).flat_map(|lower| (lower + 1..=12).map(move |upper| (lower, upper)));
+    let mut missing: Vec<_> = bands.flat_map(|band| [(band, 0), (band, 1)]).collect();
+    assert_eq!(missing.len(), 132);
+    let mut below_ten = 0;
+    for _ in 0..20_000 {
+        let (band, side) = crate::arguments::widening(&mut random);
+        missing.retain(|asked| *asked != (band, side));
+        below_ten += u32::from(band.1 < 10);
+    }
+    assert!(missing.is_empty(), "{missing:?}");
+    // About one in eight has an H that the tenth does not move.
+    assert!((2_200..=2_800).contains(&below_ten), "{below_ten}");
 }
 
 #[test]
@@ -1903,17 +2093,127 @@ fn clock_further_phases() {
     );
     // 85.5 is rounded up.
     clocked("95 110", &[("below 600", "0 0 0 86 110 1")]);
-    // 9.9 and 7.2 are rounded back to where they were, and the openings are due all the same.
-    clocked("8 9", &[("above 600 below 1200", "0 0 0 8 9 2")]);
+    // 9.9 and 7.2 would be rounded back to where they were, so that each moves by 1: 9 to 10, 8 to 7.
+    clocked("8 9", &[("above 600 below 1200", "0 0 0 7 10 2")]);
+}
+
+/// Phases one straight after the other, the side of each and the band after it. Each has one more
+/// opening due.
+fn clocked_by_phase(band: &str, phases: &[(&str, (u32, u32))]) {
+    let mut day = String::new();
+    for (due, (side, (lower, upper))) in (1..).zip(phases) {
+        day += &format!("{side} {} ", 600 * due);
+        clocked(band, &[(&day, &format!("0 0 0 {lower} {upper} {due}"))]);
+    }
+}
+
+/// An H of 2 after one widening, after two, and so on to the last that the grid has room for: up to
+/// 9 it has to go up by 1, from 10 to 19 a tenth of it is 1, and after that more.
+const UPWARDS: [u32; 133] = [
+    3, 4, 5, 6, 7, 8, 9, 10, 11, 12, 13, 14, 15, 16, 17, 18, 19, 20, 22, 24, 26, 28, 30, 33, 36,
+    39, 42, 46, 50, 55, 60, 66, 72, 79, 86, 94, 103, 113, 124, 136, 149, 163, 179, 196, 215, 236,
+    259, 284, 312, 343, 377, 414, 455, 500, 550, 605, 665, 731, 804, 884, 972, 1_069, 1_175, 1_292,
+    1_421, 1_563, 1_719, 1_890, 2_079, 2_286, 2_514, 2_765, 3_041, 3_345, 3_679, 4_046, 4_450,
+    4_895, 5_384, 5_922, 6_514, 7_165, 7_881, 8_669, 9_535, 10_488, 11_536, 12_689, 13_957, 15_352,
+    16_887, 18_575, 20_432, 22_475, 24_722, 27_194, 29_913, 32_904, 36_194, 39_813, 43_794, 48_173,
+    52_990, 58_289, 64_117, 70_528, 77_580, 85_338, 93_871, 103_258, 113_583, 124_941, 137_435,
+    151_178, 166_295, 182_924, 201_216, 221_337, 243_470, 267_817, 294_598, 324_057, 356_462,
+    392_108, 431_318, 474_449, 521_893, 574_082, 631_490, 694_639, 764_102, 840_512, 924_563,
+];
+
+#[test]
+fn clock_small_band_upwards() {
+    let upwards = [
+        6, 7, 8, 9, 10, 11, 12, 13, 14, 15, 16, 17, 18, 19, 20, 22, 24,
+    ];
+    clocked_by_phase("4 5", &upwards.map(|upper| ("above", (4, upper))));
+    clocked_by_phase("1 2", &UPWARDS.map(|upper| ("above", (1, upper))));
+    // The next one, the 134th, would be 1,017,019; its second is the word at place 267.
+    let day: String = (1..=134).map(|n| format!("above {} ", 600 * n)).collect();
+    clocked("1 2", &[(&day, "refused 11 267")]);
+    // With that phase below it is not refused: 1 stays 1.
+    let day = day.replace("above 80400", "below 80400");
+    clocked("1 2", &[(&day, "0 0 0 1 924563 134")]);
+}
+
+#[test]
+fn clock_small_band_downwards() {
+    // 10.8, 9.9 and 9.0 by the tenth, then by 1, and from 1 no further; what is due goes on.
+    let downwards = [11, 10, 9, 8, 7, 6, 5, 4, 3, 2, 1, 1, 1, 1];
+    clocked_by_phase("12 13", &downwards.map(|lower| ("below", (lower, 13))));
+    // 27.0, 24.3, 22.5, 20.7, 18.9, 17.1, 16.2, and so on.
+    let downwards = [
+        27, 25, 23, 21, 19, 18, 17, 16, 15, 14, 13, 12, 11, 10, 9, 8, 7, 6, 5, 4, 3, 2, 1, 1, 1,
+    ];
+    clocked_by_phase("30 31", &downwards.map(|lower| ("below", (lower, 31))));
+    clocked_by_phase("2 3", &[1, 1, 1].map(|lower| ("below", (lower, 3))));
+    clocked(
+        "1 2",
+        &[
+            ("below 600", "0 0 0 1 2 1"),
+            ("below 600 below", "1 600 1 1 2 1"),
+            ("below 600 below 1200", "0 0 0 1 2 2"),
+            ("below 600 above 1200", "0 0 0 1 3 2"),
+        ],
+    );
+}
+
+#[test]
+fn clock_small_band_both_ways() {
+    let by_turns = [
+        ("above", (5, 7)),
+        ("below", (4, 7)),
+        ("above", (4, 8)),
+        ("below", (3, 8)),
+        ("above", (3, 9)),
+        ("below", (2, 9)),
+        ("above", (2, 10)),
+        ("below", (1, 10)),
+        ("above", (1, 11)),
+        ("below", (1, 11)),
+        ("below", (1, 11)),
+        ("above", (1, 12)),
+        ("above", (1, 13)),
+        ("below", (1, 13)),
+    ];
+    clocked_by_phase("5 6", &by_turns);
+    // Around 20, where the tenth turns from 1 to 2: 18.0, 23.1, 16.2, 25.3, 15.3.
+    let by_turns = [
+        ("below", (18, 21)),
+        ("above", (18, 23)),
+        ("below", (17, 23)),
+        ("above", (17, 25)),
+        ("below", (16, 25)),
+    ];
+    clocked_by_phase("20 21", &by_turns);
+    clocked(
+        "5 6",
+        &[
+            // Not before its time, and not after a round inside.
+            ("above 599", "1 0 0 5 6 0"),
+            ("above 599 inside 600", "0 0 0 5 6 0"),
+            // The latest side moves, once, however late it is.
+            ("above below 600", "0 0 0 4 6 1"),
+            ("below above 600", "0 0 0 5 7 1"),
+            ("below 86399", "0 0 0 4 6 1"),
+            // The bound has moved while the next phase waits.
+            ("above 600 below", "1 600 1 5 7 1"),
+            ("below 600 below 1199", "1 600 1 4 6 1"),
+            // Of a day that is refused nothing is left.
+            ("above 600 x50000000", "refused 13 2"),
+            ("above 600 599", "refused 14 2"),
+        ],
+    );
 }
 
 #[test]
 fn clock_whole_day() {
     // 143 waits fit into the day, up to second 85,800, and 599 seconds are left over.
     let day: String = (1..=143).map(|n| format!("below {} ", 600 * n)).collect();
-    clocked("9 110", &[(&day, "0 0 0 9 110 143")]);
+    // 9 is at 1 after eight of them and stays there.
+    clocked("9 110", &[(&day, "0 0 0 1 110 143")]);
     let longer = day + "below 86399";
-    clocked("9 110", &[(&longer, "1 85800 1 9 110 143")]);
+    clocked("9 110", &[(&longer, "1 85800 1 1 110 143")]);
     // As many rounds as a line has room for.
     let rounds = "above ".repeat(16_383) + "below ";
     clocked("90 110", &[(&rounds, "1 0 1 90 110 0")]);
@@ -1966,6 +2266,15 @@ fn clock_refuses_a_widening() {
             ("above 600", "0 0 0 90 1000000 1"),
             ("above 600 above 1200", "refused 11 3"),
             ("above 600 below 1200", "0 0 0 81 1000000 2"),
+        ],
+    );
+    // A lower bound that cannot move is no fault; an upper one is.
+    clocked(
+        "1 1000000",
+        &[
+            ("below 600", "0 0 0 1 1000000 1"),
+            ("below 600 below 1200", "0 0 0 1 1000000 2"),
+            ("below 600 above 1200", "refused 11 3"),
         ],
     );
 }
@@ -2055,4 +2364,30 @@ fn random_days_reach_all() {
         missing.retain(|start| !answer.starts_with(start));
     }
     assert!(missing.is_empty(), "{missing:?}");
+}
+
+#[test]
+fn random_days_of_small_bands() {
+    let mut random = Random::new(7);
+    let (mut small, mut raised, mut at_one, mut run_out) = (0, 0, 0, 0);
+    for _ in 0..3_000 {
+        let asked = crate::arguments::waiting(&mut random);
+        let (lower, upper) = asked.band;
+        if lower == 0 || lower >= upper || upper > 12 {
+            continue;
+        }
+        small += 1;
+        match crate::waiting::waiting(lower, upper, &asked.words) {
+            Ok(waiting) => {
+                let (lower, upper) = waiting.band;
+                // From 12 it takes 20 widenings to come beyond 50.
+                raised += u32::from(upper > Price(50));
+                at_one += u32::from(lower == Price(1) && waiting.openings_due >= 20);
+            }
+            Err(refusal) => run_out += u32::from(refusal.number == 11),
+        }
+    }
+    assert!(small >= 300, "{small}");
+    assert!(raised >= 30 && at_one >= 30, "{raised} {at_one}");
+    assert!(run_out >= 5, "{run_out}");
 }

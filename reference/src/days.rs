@@ -7,6 +7,12 @@ use crate::waiting::{ABOVE, BELOW, INSIDE, LAST_SECOND, SECOND, WAIT};
 /// The most words that a day is drawn with; faults may add a few.
 const MOST_WORDS: usize = 400;
 
+/// Rounds below among those outside on a busy day, in eighths. Few upper bounds can be widened so
+/// often, so that most of the rounds are below.
+const MOSTLY_BELOW: [u64; 6] = [8, 8, 8, 7, 4, 0];
+/// For a small band it is the other way round: D is soon at 1, and H has far to go.
+const MOSTLY_ABOVE: [u64; 6] = [0, 0, 0, 1, 4, 6];
+
 /// A list as it grows, and what the draw of its next word goes by.
 #[derive(Default)]
 struct Day {
@@ -72,7 +78,7 @@ pub fn random_day(random: &mut Random) -> Vec<u32> {
         _ => random.between(3, 60),
     };
     match random.below(14) {
-        0 => busy_day(random),
+        0 => busy_day(random, &MOSTLY_BELOW),
         _ => mixed_day(random, length as usize),
     }
 }
@@ -123,13 +129,18 @@ fn first_second(random: &mut Random) -> u32 {
     second as u32
 }
 
+/// A day for a small band, which is widened tens of times, at times until H runs out of the grid.
+pub fn day_of_small_band(random: &mut Random) -> Vec<u32> {
+    busy_day(random, &MOSTLY_ABOVE)
+}
+
 /// A day of phases that wait their time out, at times as many as fit in.
-fn busy_day(random: &mut Random) -> Vec<u32> {
+fn busy_day(random: &mut Random, below_shares: &[u64]) -> Vec<u32> {
     let most = LAST_SECOND / WAIT;
     let any = random.between(2, most.into()) as u32;
     let phases = random.pick(&[most, most, most - 1, any, any, any]);
     let mut habits = random_habits(random);
-    habits.below_share = random.pick(&[8, 8, 8, 7, 4, 0]);
+    habits.below_share = random.pick(below_shares);
     let mut day = Day::default();
     // The seconds that pass beside the phases' own waits.
     let mut spare = LAST_SECOND - WAIT * phases;

@@ -299,6 +299,9 @@ fn compare_bands(asked: &Asked, tally: &mut Tally) -> Compared {
     let band = unsafe { raw::auction_widened_band(narrow(lower), narrow(upper), narrow(side)) };
     asked.same(|| format!("widen {lower} {upper} {side}"), band, due)?;
     tally.met(Call::WidenedBand, due.refusal);
+    if due.refusal == 0 {
+        tally.widened(if side == 0 { upper } else { lower });
+    }
     Ok(())
 }
 
@@ -319,6 +322,7 @@ fn compare_waiting(asked: &Waited, tally: &mut Tally) -> Compared {
     tally.met(Call::WaitingClock, due.refusal);
     if due.refusal == 0 {
         tally.waited(given.len(), due.phase, due.due);
+        tally.widened_by_waiting([lower, upper], [due.lower, due.upper]);
     }
     Ok(())
 }

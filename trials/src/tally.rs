@@ -65,6 +65,9 @@ pub struct Tally {
     /// Waiting lists that were followed: to a phase that is on, with 0, 1, 2 to 9, 10 to 142 and 143 openings due.
     waiting: u64,
     due: [u64; 5],
+    /// Widenings of a bound below 10, and waiting lists that widen one.
+    small: u64,
+    small_lists: u64,
     longest_list: usize,
     /// Stored results that are different; and of all of them the most words, and the largest number of a round that was read.
     different: u64,
@@ -179,6 +182,17 @@ impl Tally {
         self.longest_list = self.longest_list.max(words);
     }
 
+    /// A widening that was not refused, by the bound that it moves.
+    pub fn widened(&mut self, bound: u64) {
+        self.small += u64::from(bound < 10);
+    }
+
+    /// A waiting list that was not refused, by the band before it and after.
+    pub fn widened_by_waiting(&mut self, before: [u64; 2], after: [u32; 2]) {
+        let moved = |(before, after): (u64, u32)| before < 10 && before != after.into();
+        self.small_lists += u64::from(before.into_iter().zip(after).any(moved));
+    }
+
     /// A stored result beside its sheet, by whether it is different and how many fills the round has that was read.
     pub fn compared(&mut self, different: u32, asked: &StoredCase, fills: usize) {
         self.different += u64::from(different);
@@ -200,6 +214,8 @@ impl Tally {
         sum(&mut self.endings, &other.endings);
         sum(&mut self.due, &other.due);
         self.waiting += other.waiting;
+        self.small += other.small;
+        self.small_lists += other.small_lists;
         self.longest_list = self.longest_list.max(other.longest_list);
         self.sheets += other.sheets;
         self.most_rounds = self.most_rounds.max(other.most_rounds);
@@ -244,6 +260,10 @@ impl Tally {
         println!(
             "waiting lists to a phase that is on: {}, of most words: {}",
             self.waiting, self.longest_list
+        );
+        println!(
+            "widenings of a bound below 10: {}, waiting lists that widen one: {}",
+            self.small, self.small_lists
         );
         println!("openings due 0: {none}, 1: {one}, 2 to 9: {few}, 10 to 142: {many}, 143: {most}");
         println!(

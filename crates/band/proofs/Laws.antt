@@ -1,17 +1,16 @@
--- Laws of the band calls, over plain numbers: what a band that stands tells of its bounds, and that no product overflows.
+-- Laws of the band calls, over plain numbers: that no product overflows, what is known of a code and of a side, and what widening an
+-- upper bound answers.
 use mathlib.Core.Bool.{Bool, true, false, cond}
+use mathlib.Core.List.{[], _∷_}
 use mathlib.Core.Path.{_≡_}
-use Prim.Native.Nat.{ℕ, _*_, _≤_}
+use Prim.Native.Nat.{ℕ, _+_, _*_, _≤_, _<_, max}
 use native.Mathlib.Nat.{mul-le-mul}
 use native.Mathlib.Omega.{arith}
 use lib.Dec.{leb, eqb}
-use borrow.Author.Tests.{leb-true}
-use Rattle.rules.specs.Band.{bandStands, percentOf}
-use Rattle.rules.proofs.Grid.{band-on-grid}
-
--- the bounds of a band that stands are on the grid
-pub bounds-small : (D H : ℕ) → bandStands D H ≡ true → (D ≤ 1000000) × (H ≤ 1000000)
-bounds-small D H e = let (lower, upper) = band-on-grid D H e in (lower .1, upper .1)
+use borrow.Author.Tests.{leb-true, lt-ltb, le-ltb}
+use Rattle.rules.specs.Answers.{gives, refuses, downwards}
+use Rattle.rules.specs.Band.{percentOf, tenthUp, widenedUpper, widenedLower, widenedFor}
+use Rattle.rules.specs.Grid.{lastPrice}
 
 -- a price of the grid times a percentage of at most 200 fits 32 bits with room to spare
 pub product-fits : (i q : ℕ) → i ≤ 1000000 → q ≤ 200 → i * q ≤ 200000000
@@ -29,3 +28,13 @@ percent-small code e = rw e (go (eqb code 0))
     go : (shares : Bool) → cond shares 20 25 ≤ 100
     go true = omega arith
     go false = omega arith
+
+-- an upper bound that would be off the grid is refusal 11; one on the grid is given beside the lower bound, which stays
+module _ (D H wider : ℕ) (moved : wider ≡ max (tenthUp H) (H + 1)) where
+  pub upper-refused : lastPrice < wider → refuses 11 0 ≡ widenedFor D H 0
+  unfolding widenedFor widenedUpper downwards
+  upper-refused off = rw (← moved, lt-ltb lastPrice wider off)
+
+  pub upper-given : wider ≤ lastPrice → gives (D ∷ wider ∷ []) ≡ widenedFor D H 0
+  unfolding widenedFor widenedUpper widenedLower downwards
+  upper-given on = rw (← moved, le-ltb lastPrice wider on)

@@ -6,6 +6,8 @@ ghost use mathlib.Core.Path.{_≡_};
 ghost use Prim.Native.Nat.{_≤_};
 ghost use Rattle.rules.specs.Answers.{priceAnswer, bandAnswer};
 ghost use Rattle.rules.specs.Band.{bandStands, indicativePrice, nextBand, widenedFor, widenedBand};
+use compare::greater;
+use compare::lesser;
 use compare::moved_into;
 use rule::BandRule;
 use rules::BandAnswer;
@@ -57,12 +59,12 @@ pub fn next_band(code: u32, indicative: u32) -> BandAnswer
     BandAnswer::Refused(Refusal::Argument)
 }
 
-// The band with its upper bound 11 × H / 10, rounded down.
+// The band with its upper bound 11 × H / 10, rounded down, and at least H + 1.
 fn widened_up(lower: Price, upper: Price) -> BandAnswer
     requires { ⌜ upper .0 ≤ 1000000 ⌝ }
     ensures { λ r. ⌜ bandAnswer r ≡ widenedFor (lower .0) (upper .0) 0 ⌝ }
 {
-    let wider = 11 * upper.0 / 10;
+    let wider = greater(11 * upper.0 / 10, upper.0 + 1);
     if LAST_PRICE < wider {
         return BandAnswer::Refused(Refusal::Band);
     }
@@ -72,13 +74,17 @@ fn widened_up(lower: Price, upper: Price) -> BandAnswer
     }
 }
 
-// The band with its lower bound 9 × D / 10, rounded up.
+// The band with its lower bound 9 × D / 10, rounded up, and at most D − 1; a bound of 1 stays.
 fn widened_down(lower: Price, upper: Price) -> BandAnswer
-    requires { ⌜ (lower .0 ≤ 1000000) × (upper .0 ≤ 1000000) ⌝ }
+    requires { ⌜ (1 ≤ lower .0) × (lower .0 ≤ 1000000) × (upper .0 ≤ 1000000) ⌝ }
     ensures { λ r. ⌜ bandAnswer r ≡ widenedFor (lower .0) (upper .0) 1 ⌝ }
 {
+    if lower.0 == 1 {
+        return BandAnswer::Bounds { lower, upper };
+    }
+    let wider = lesser((9 * lower.0 + 9) / 10, lower.0 - 1);
     BandAnswer::Bounds {
-        lower: Price((9 * lower.0 + 9) / 10),
+        lower: Price(wider),
         upper,
     }
 }

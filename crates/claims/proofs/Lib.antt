@@ -25,4 +25,5 @@ pub mod Trades
 pub mod NothingOpen
 pub mod CallsHold
 pub mod StoredHold
+pub mod Widening
 pub mod Waiting

@@ -4,11 +4,12 @@
 use mathlib.Core.Bool.{Bool, true, false, not, _&&_, _||_, false≢true}
 use mathlib.Core.List.{List, [], _∷_, _++_}
 use mathlib.Core.Path.{_≡_, refl, sym, _∙_}
+use mathlib.Mathlib.Data.Bool.Basic.{or-eq-false-eq-eq-false-and-eq-false}
 use Prim.Native.Nat.{ℕ, _+_, _≤_, _<_}
 use native.Mathlib.Nat.{le-refl}
 use native.Mathlib.Omega.{arith}
 use lib.Dec.{leb, eqb}
-use borrow.Author.Tests.{leb-true, ltb-true, ltb-false, lt-ltb, eqb-true, not-false}
+use borrow.Author.Tests.{leb-true, ltb-true, ltb-false, lt-ltb, eqb-true, eqb-false, not-false}
 use Rattle.claims.specs.Clock.{SoundClock}
 use Rattle.claims.specs.Waiting.{WaitingExpected}
 use Rattle.rules.proofs.Downwards.{Clear, given-clear, clear-row, clear-rest}
@@ -46,7 +47,10 @@ upper-kept side H = by-test (λ u. H ≤ u) (eqb side 0) (λ e. omega arith) (λ
 lower-kept : (side D : ℕ) → 1 ≤ D → (1 ≤ widenedLower side D) × (widenedLower side D ≤ D)
 unfolding widenedLower
 lower-kept side D on =
-    by-test (λ l. (1 ≤ l) × (l ≤ D)) (eqb side 0) (λ e. (on, le-refl D)) (λ e. (omega arith, omega arith))
+    by-test (λ l. (1 ≤ l) × (l ≤ D)) (eqb side 0 || eqb D 1) (λ e. (on, le-refl D))
+    (λ e.
+    let other = eqb-false D 1 (or-eq-false-eq-eq-false-and-eq-false (eqb side 0) (eqb D 1) .0 e .1) in
+    (omega (arith, other), omega arith))
 
 -- a band that can be widened stands afterwards
 widened-stands : (D H side : ℕ) → bandStands D H ≡ true → cannotWiden side H ≡ false

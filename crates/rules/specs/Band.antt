@@ -1,7 +1,7 @@
 -- Clauses 9.1–9.8 of docs/RULES.md: indicative price, next band and widening, with refusals 9 and 11 of their calls.
 use mathlib.Core.Bool.{Bool, not, _&&_, _||_, cond}
 use mathlib.Core.List.{[], _∷_}
-use Prim.Native.Nat.{ℕ, _+_, _-_, _*_, _/_}
+use Prim.Native.Nat.{ℕ, _+_, _-_, _*_, _/_, max, min}
 use lib.Dec.{leb, ltb, eqb}
 use Rattle.rules.specs.Answers.{Answer, gives, row, downwards}
 use Rattle.rules.specs.Grid.{lastPrice, onGrid, movedInto}
@@ -58,13 +58,21 @@ nextBand code I = downwards (row 9 (not (onGrid I && leb code 1)) ∷ []) (nextB
 
 -- ---- Widening after waiting
 
--- [9.7] Side 0 makes the upper bound 11 tenths of itself, rounded down; else it stays.
-unfoldable pub widenedUpper : ℕ → ℕ → ℕ
-widenedUpper side H = cond (eqb side 0) (11 * H / 10) H
+-- [9.7] A tenth outwards: 11 tenths of an upper bound, rounded down; 9 tenths of a lower one, rounded up.
+abbrev pub tenthUp : ℕ → ℕ
+tenthUp H = 11 * H / 10
 
--- [9.7] Side 0 leaves the lower bound; else it is 9 tenths of itself, rounded up. Only sides 0 and 1 come here (9.8).
+abbrev pub tenthDown : ℕ → ℕ
+tenthDown D = roundedUp (9 * D) 10
+
+-- [9.7] Side 0 moves the upper bound a tenth up, and by at least 1; else it stays.
+unfoldable pub widenedUpper : ℕ → ℕ → ℕ
+widenedUpper side H = cond (eqb side 0) (max (tenthUp H) (H + 1)) H
+
+-- [9.7] Side 0 leaves the lower bound, and a bound of 1 stays; else it moves a tenth down, and by at least 1. Only sides 0
+-- and 1 come here (9.8).
 unfoldable pub widenedLower : ℕ → ℕ → ℕ
-widenedLower side D = cond (eqb side 0) D (roundedUp (9 * D) 10)
+widenedLower side D = cond (eqb side 0 || eqb D 1) D (min (tenthDown D) (D - 1))
 
 -- [9.8] The upper bound would be off the grid.
 abbrev pub cannotWiden : ℕ → ℕ → Bool

@@ -279,6 +279,19 @@ furtherCases =
     ∷ case (indicative 90 110 0 0 80) (gives (90 ∷ []))
     ∷ case (indicative 90 110 0 0 130) (gives (110 ∷ []))
     ∷ case (indicative 90 90 1 100 100) (refuses 9 0)
+    -- a widened bound has to move: by 1 below 10, from 10 on by the tenth; a lower bound of 1 stays, an upper one has no such end
+    ∷ case (widen 4 5 0) (gives (4 ∷ 6 ∷ []))
+    ∷ case (widen 5 6 1) (gives (4 ∷ 6 ∷ []))
+    ∷ case (widen 1 2 0) (gives (1 ∷ 3 ∷ []))
+    ∷ case (widen 2 3 1) (gives (1 ∷ 3 ∷ []))
+    ∷ case (widen 1 3 1) (gives (1 ∷ 3 ∷ []))
+    ∷ case (widen 8 9 0) (gives (8 ∷ 10 ∷ []))
+    ∷ case (widen 9 10 0) (gives (9 ∷ 11 ∷ []))
+    ∷ case (widen 9 10 1) (gives (8 ∷ 10 ∷ []))
+    ∷ case (widen 10 20 1) (gives (9 ∷ 20 ∷ []))
+    ∷ case (widen 10 20 0) (gives (10 ∷ 22 ∷ []))
+    ∷ case (widen 20 30 1) (gives (18 ∷ 30 ∷ []))
+    ∷ case (widen 1 1000000 0) (refuses 11 0)
     ∷ []
 
 -- ---- The waiting clock, worked out by hand
@@ -325,6 +338,10 @@ waitingCases =
     ∷ case (waiting 90 900000 (above ∷ atSecond 600 ∷ above ∷ atSecond 1199 ∷ atSecond 1200 ∷ [])) (refuses 11 4)
     ∷ case (waiting 90 1000000 (above ∷ below ∷ atSecond 600 ∷ [])) (gives (0 ∷ 0 ∷ 0 ∷ 81 ∷ 1000000 ∷ 1 ∷ []))
     ∷ case (waiting 1 110 (below ∷ atSecond 600 ∷ [])) (gives (0 ∷ 0 ∷ 0 ∷ 1 ∷ 110 ∷ 1 ∷ []))
+    -- bounds below 10 move by 1 at each such second; one that stays at 1 makes an opening due like any other
+    ∷ case (waiting 4 5 (above ∷ atSecond 600 ∷ above ∷ atSecond 1200 ∷ [])) (gives (0 ∷ 0 ∷ 0 ∷ 4 ∷ 7 ∷ 2 ∷ []))
+    ∷ case (waiting 5 6 (below ∷ atSecond 600 ∷ above ∷ atSecond 1200 ∷ [])) (gives (0 ∷ 0 ∷ 0 ∷ 4 ∷ 7 ∷ 2 ∷ []))
+    ∷ case (waiting 2 6 (below ∷ atSecond 600 ∷ below ∷ atSecond 1200 ∷ [])) (gives (0 ∷ 0 ∷ 0 ∷ 1 ∷ 6 ∷ 2 ∷ []))
     -- what a word is comes before what it does: a second that the day has not, where the widening would fail
     ∷ case (waiting 90 1000000 (above ∷ atSecond 86400 ∷ [])) (refuses 13 1)
     -- a starting band that is none, before any word
