@@ -417,8 +417,9 @@ pub fn next_band(code: u32, indicative: u32) -> Result<Band, Refusal> {
     )
 }
 
-/// The band with its upper bound (side 0) or its lower (side 1) a tenth further out, and at least 1; only a lower bound of 1 stays.
-/// 9 for another side, or if the bounds are no band; 11 if the upper bound, so moved, would be off the grid.
+/// The band with its upper bound (side 0) or its lower (side 1) moved out by a tenth of itself, rounded towards where it was, and by
+/// at least 1; a lower bound of 1 does not move. 9 for another side, or if the bounds are no band; 11 if the upper bound, so moved,
+/// would be off the grid.
 pub fn widened_band(lower: u32, upper: u32, side: u32) -> Result<Band, Refusal> {
     let reply = unsafe { raw::auction_widened_band(lower, upper, side) };
     answered(
@@ -433,7 +434,8 @@ pub fn widened_band(lower: u32, upper: u32, side: u32) -> Result<Band, Refusal> 
 
 /// What the words of a waiting list lead to, from a starting band on; when a phase starts and ends is said in boxashewu.h, at
 /// auction_waiting_clock. 9 if the bounds are no band; then of each word in turn 13 if its kind or value is wrong, 14 if it is a second
-/// that is lower than the one before it, 11 if it is a second that ends a phase and the upper bound would be off the grid.
+/// that is lower than the one before it, 11 if it is a second at which the time of a phase is up and the upper bound, widened, would be
+/// off the grid.
 pub fn waiting_clock(lower: u32, upper: u32, words: &[u32]) -> Result<Waiting, WaitingRefusal> {
     let reply = unsafe { raw::auction_waiting_clock(lower, upper, words.as_ptr(), words.len()) };
     let (start, side) = (reply.start, reply.side);

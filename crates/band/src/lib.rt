@@ -59,7 +59,7 @@ pub fn next_band(code: u32, indicative: u32) -> BandAnswer
     BandAnswer::Refused(Refusal::Argument)
 }
 
-// The band with its upper bound 11 × H / 10, rounded down, and at least H + 1.
+// The band with its upper bound 11 × H / 10, rounded down, and at least H + 1; or refusal 11.
 fn widened_up(lower: Price, upper: Price) -> BandAnswer
     requires { ⌜ upper .0 ≤ 1000000 ⌝ }
     ensures { λ r. ⌜ bandAnswer r ≡ widenedFor (lower .0) (upper .0) 0 ⌝ }
@@ -74,7 +74,8 @@ fn widened_up(lower: Price, upper: Price) -> BandAnswer
     }
 }
 
-// The band with its lower bound 9 × D / 10, rounded up, and at most D − 1; a bound of 1 stays.
+// The band with its lower bound 9 × D / 10, rounded up, and at most D − 1; a bound of 1 stays. The upper
+// bound is on the grid and stays, so there is no refusal.
 fn widened_down(lower: Price, upper: Price) -> BandAnswer
     requires { ⌜ (1 ≤ lower .0) × (lower .0 ≤ 1000000) × (upper .0 ≤ 1000000) ⌝ }
     ensures { λ r. ⌜ bandAnswer r ≡ widenedFor (lower .0) (upper .0) 1 ⌝ }

@@ -70,7 +70,7 @@ unfoldable pub widenedUpper : ℕ → ℕ → ℕ
 widenedUpper side H = cond (eqb side 0) (max (tenthUp H) (H + 1)) H
 
 -- [9.7] Side 0 leaves the lower bound, and a bound of 1 stays; else it moves a tenth down, and by at least 1. Only sides 0
--- and 1 come here (9.8).
+-- and 1 come here (9.8, 9.11).
 unfoldable pub widenedLower : ℕ → ℕ → ℕ
 widenedLower side D = cond (eqb side 0 || eqb D 1) D (min (tenthDown D) (D - 1))
 

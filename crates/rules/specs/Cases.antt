@@ -279,7 +279,7 @@ furtherCases =
     ∷ case (indicative 90 110 0 0 80) (gives (90 ∷ []))
     ∷ case (indicative 90 110 0 0 130) (gives (110 ∷ []))
     ∷ case (indicative 90 90 1 100 100) (refuses 9 0)
-    -- a widened bound has to move: by 1 below 10, from 10 on by the tenth; a lower bound of 1 stays, an upper one has no such end
+    -- a widened bound has to move: below 10 by 1, from 10 on by the tenth; only a lower bound of 1 stays
     ∷ case (widen 4 5 0) (gives (4 ∷ 6 ∷ []))
     ∷ case (widen 5 6 1) (gives (4 ∷ 6 ∷ []))
     ∷ case (widen 1 2 0) (gives (1 ∷ 3 ∷ []))
@@ -291,7 +291,11 @@ furtherCases =
     ∷ case (widen 10 20 1) (gives (9 ∷ 20 ∷ []))
     ∷ case (widen 10 20 0) (gives (10 ∷ 22 ∷ []))
     ∷ case (widen 20 30 1) (gives (18 ∷ 30 ∷ []))
+    -- an upper bound at the end of the grid does not stay but is refused; the arguments come first
+    ∷ case (widen 1 1000000 1) (gives (1 ∷ 1000000 ∷ []))
     ∷ case (widen 1 1000000 0) (refuses 11 0)
+    ∷ case (widen 1 1000000 2) (refuses 9 0)
+    ∷ case (widen 5 5 0) (refuses 9 0)
     ∷ []
 
 -- ---- The waiting clock, worked out by hand
