@@ -256,8 +256,9 @@ struct auction_band auction_widened_band(uint32_t lower, uint32_t upper, uint32_
  * A round above or below the band sets the side. If no phase is on it starts one, at the latest second said, or at
  * second 0 if none was; else the start stays. A round inside the band ends a phase. A second that is 600 or more after
  * the start ends it too, and nothing but a second does so by time, however late rounds come: then the band is widened on
- * the phase's side, as auction_widened_band does it, and one more opening is due, also if a lower bound of 1 stays. One such
- * second widens once, however late it is. No word takes an opening off again; more than 143 cannot be due, as a 144th would need second 86,400.
+ * the phase's side, as auction_widened_band does it, and one more opening is due, also if a lower bound of 1 stays. One
+ * such second widens once, however late it is. No word takes an opening off again; more than 143 cannot be due, as a 144th
+ * would need second 86,400.
  *
  * So begin a list with a second, say one before each round, and the present one last. Nothing is kept between two calls:
  * to go on, hand in the whole list again with the starting band. After a refusal at a word, the call with `place` for

@@ -22,7 +22,7 @@ pub record MovedOut (side D H lower upper : ℕ) : Type 0 where
   pub upperByTenth : side ≡ 0 → 10 ≤ H → upper ≡ tenthUp H
   pub lowerByTenth : side ≡ 1 → 10 ≤ D → lower ≡ tenthDown D
 
--- [13.10a] So it is with whatever two bounds the widening call answers. And no least move brings refusal 11: it arises on side 0
+-- [13.10a] So it is with whatever two bounds the widening call answers. And no least move is refused with 11: that arises on side 0
 -- just where the tenth would leave the grid, and on side 1 never.
 pub record WideningExpected (D H side : ℕ) : Type 0 where
   pub moves : (lower upper : ℕ) → answer (widen D H side) ≡ gives (lower ∷ upper ∷ []) → MovedOut side D H lower upper
