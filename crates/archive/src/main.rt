@@ -1,6 +1,8 @@
 // The archive program: reads the two files that its arguments name, a sheet and the text of its stored result, and prints
 // the result in words, or where it differs from what the sheet's opening writes. All between reading and writing is
 // `pages::archive_text`. Started with any other number of arguments it reads nothing and says what it does.
+#![tactic(auto)]
+
 ghost use Rattle.std.specs.Prelude.{◌≤◌, length};
 
 fn main() {

@@ -1,5 +1,7 @@
 // Clauses 10.2–10.6: the calls on a sheet. Their arguments may be any numbers: the sheet's faults are
 // refused first, then what is not allowed. Each call reads the sheet once and hands the reading on whole.
+#![tactic(auto)]
+
 mod charged;
 mod first;
 mod whole;

@@ -1,5 +1,7 @@
 // Clauses 9.1–9.8: the three calls about bands. Their arguments may be any
 // numbers: what is not allowed is refused.
+#![tactic(auto)]
+
 mod rule;
 
 ghost use Rattle.std.specs.Prelude.{◌≡◌, ◌≤◌};

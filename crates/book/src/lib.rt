@@ -1,5 +1,7 @@
 // Clauses 4.1–4.7, limits in force: the book of a sheet, each side's orders put in order once by entered limit;
 // and the line of a side in a round, its orders with pieces left by limit in force.
+#![tactic(auto)]
+
 pub mod entering;
 pub mod force;
 

@@ -1,5 +1,7 @@
 // Clause 10.7: the calls for programs in C and in Rust. Numbers and lists of words go in, a record of plain
 // numbers comes out; include/boxashewu.h says what a caller owes.
+#![tactic(auto)]
+
 mod clock;
 mod replies;
 mod stored_replies;

@@ -1,5 +1,7 @@
 // Answers calls from standard input, one a line, each with a line of its own; `help` says how the lines
 // read. Started with an argument it reads nothing and prints that help.
+#![tactic(auto)]
+
 mod answers;
 mod fields;
 mod help;

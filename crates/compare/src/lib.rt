@@ -1,4 +1,6 @@
 // What every part of the engine asks of numbers, prices, sides and places.
+#![tactic(auto)]
+
 ghost use Rattle.std.specs.Prelude.{◌≡◌, ◌≤◌, max, min};
 ghost use Rattle.rules.specs.AuctionPrice.{in_band, auctioned};
 ghost use Rattle.rules.specs.Fills.{potential_purchase};

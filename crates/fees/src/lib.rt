@@ -1,5 +1,7 @@
 // Clauses 8.5–8.9: the fees on a result, order by order, from a tariff and the words of the result. In 64 bits
 // there is room for the worth of any fill, and for what an order pays over all rounds.
+#![tactic(auto)]
+
 ghost use Rattle.std.specs.Prelude.{true, ◌++◌, ◌≡◌, ◌+◌, ◌*◌, ◌/◌, ◌≤◌, ◌<◌, length, drop};
 ghost use Rattle.rules.specs.Fees as Fees;
 ghost use Rattle.rules.specs.Grid.{moved_into};

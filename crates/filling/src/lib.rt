@@ -1,5 +1,7 @@
 // Clauses 6.2–6.7: the fills of a round in all 120 places, and their total. Each side of the round is a
 // line, of which the eligible orders are put in the order of the queue.
+#![tactic(auto)]
+
 mod queue;
 mod totals;
 

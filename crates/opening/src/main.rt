@@ -1,6 +1,8 @@
 // The opening program: reads a sheet from standard input, and prints the words of its opening or the
 // refusal. All between reading and writing is `text::opening_text`. Started with an argument it reads
 // nothing and says what it does.
+#![tactic(auto)]
+
 fn main() {
     if 1 < os::arg_count() {
         help();

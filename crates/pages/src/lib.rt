@@ -1,5 +1,7 @@
 // Clauses 11.6–11.11: the archive program but for its reading and writing, from the bytes of a sheet and the text of
 // a stored result to the text that it prints.
+#![tactic(auto)]
+
 mod phrases;
 mod rounds;
 

@@ -4,6 +4,8 @@
 // maximisers run from the sells' limit of piece V to the buys', and demand exceeds supply there up to the
 // buys' limit of piece V + 1, supply demand from the sells' on. On a side's line they are the limits of the
 // orders that hold those pieces.
+#![tactic(auto)]
+
 mod meet;
 
 ghost use Rattle.std.specs.Prelude.{List, ◌≡◌, ◌≤◌, length};

@@ -1,4 +1,6 @@
 // Clauses 7.1–7.3 and 7.8: a round of a sheet, from what remains of its orders, and the words of its result.
+#![tactic(auto)]
+
 pub mod writing;
 
 ghost use Rattle.std.specs.Prelude.{List, ◌≡◌, ◌≤◌, length};

@@ -1,4 +1,6 @@
 // The types that the rules and the engine share, and the refusals with their numbers.
+#![tactic(auto)]
+
 ghost use Rattle.std.specs.Prelude.{◌≡◌};
 ghost use Rattle.rules.specs.Grid.{on_grid};
 ghost use Rattle.rules.specs.Answers.{fault_number, waiting_fault_number, refusal_number, refusal_place};

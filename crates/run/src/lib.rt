@@ -1,4 +1,6 @@
 // Clauses 7.4–7.10: the rounds of an opening, one after the other, into the lent space.
+#![tactic(auto)]
+
 mod ending;
 pub mod start;
 

@@ -1,4 +1,6 @@
 // Clauses 3.1–3.14: reading the words of a sheet, and its check.
+#![tactic(auto)]
+
 mod heading;
 mod orders;
 

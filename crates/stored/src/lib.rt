@@ -1,6 +1,8 @@
 // Clauses 10.6a–10.6d: a stored result beside its sheet. It opens if its words are what the opening of the sheet
 // writes, and then it is read round by round: through a view, opened once, or by a call for one round.
 // The functions that hold a view are few, and hand its words and its number of orders to the others at once.
+#![tactic(auto)]
+
 mod beside;
 pub mod rounds;
 

@@ -1,5 +1,7 @@
 // Clauses 11.1–11.5: the opening program but for its reading and writing, from the bytes that it
 // reads to the text that it prints. And clause 11.6: such a text, read back into the words of a result.
+#![tactic(auto)]
+
 pub mod input;
 pub mod lines;
 pub mod listing;

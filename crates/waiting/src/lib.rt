@@ -1,5 +1,7 @@
 // Clause 9.16: the waiting clock. It works a list of words off, each a second of the day or a round above,
 // below or inside the band, and answers the clock that they lead to, or the first word that is refused.
+#![tactic(auto)]
+
 mod steps;
 
 ghost use Rattle.std.specs.Prelude.{◌≡◌};

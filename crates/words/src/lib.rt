@@ -1,5 +1,7 @@
 // Clause 1.5: words of 32 bits, their kind and value, and a cursor over a list of them. A call that reads words, of a
 // sheet or of another kind, reads them by it.
+#![tactic(auto)]
+
 pub mod cursor;
 
 ghost use Rattle.std.specs.Prelude.{◌≡◌, ◌<◌};
