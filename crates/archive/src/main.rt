@@ -33,7 +33,7 @@ fn archive() {
 }
 
 // How many bytes were read from a file, and whether it could be read.
-#[derive(Drop)]
+#[derive(Clone, Copy)]
 struct Taken {
     count: usize,
     readable: bool,

@@ -6,7 +6,7 @@ ghost use Rattle.rules.specs.Band.{percent_of, next_upper, next_lower, next_band
 use rules::{BandAnswer, LAST_PRICE, Price, Refusal};
 
 // How far the next band reaches from the indicative price, in percent of it.
-#[derive(Drop)]
+#[derive(Clone, Copy)]
 pub(crate) struct BandRule {
     pub percent: u32,
 }

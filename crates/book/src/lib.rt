@@ -7,7 +7,7 @@ pub mod force;
 
 // The orders of a sheet by entered limit, one line a side: the first of each array, as many as its count says.
 // The amount of an entry is one more than a Stepper ignores, 0 for all others.
-#[derive(Drop)]
+#[derive(Clone, Copy)]
 pub struct Book {
     pub buys: usize,
     pub bids: [u64; 120],

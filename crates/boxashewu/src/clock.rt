@@ -7,7 +7,7 @@ use crate::replies::{ANSWERED, NO_PLACE};
 use rules::{Clock, Phase, WaitingAnswer};
 
 #[repr(C)]
-#[derive(Drop)]
+#[derive(Clone, Copy)]
 pub struct WaitingReply {
     pub refusal: u32,
     pub place: usize,
@@ -20,7 +20,7 @@ pub struct WaitingReply {
 }
 
 // The three numbers of a phase.
-#[derive(Drop)]
+#[derive(Clone, Copy)]
 pub(crate) struct PhaseReply {
     pub phase: u32,
     pub start: u32,

@@ -12,14 +12,14 @@ pub(crate) const ANSWERED: u32 = 0;
 pub(crate) const NO_PLACE: usize = 0;
 
 #[repr(C)]
-#[derive(Drop)]
+#[derive(Clone, Copy)]
 pub struct SheetReply {
     pub refusal: u32,
     pub order: usize,
 }
 
 #[repr(C)]
-#[derive(Drop)]
+#[derive(Clone, Copy)]
 pub struct PriceReply {
     pub refusal: u32,
     pub order: usize,
@@ -27,7 +27,7 @@ pub struct PriceReply {
 }
 
 #[repr(C)]
-#[derive(Drop)]
+#[derive(Clone, Copy)]
 pub struct CurvesReply {
     pub refusal: u32,
     pub order: usize,
@@ -37,7 +37,7 @@ pub struct CurvesReply {
 }
 
 #[repr(C)]
-#[derive(Drop)]
+#[derive(Clone, Copy)]
 pub struct SpaceReply {
     pub refusal: u32,
     pub order: usize,
@@ -45,7 +45,7 @@ pub struct SpaceReply {
 }
 
 #[repr(C)]
-#[derive(Drop)]
+#[derive(Clone, Copy)]
 pub struct BandReply {
     pub refusal: u32,
     pub order: usize,

@@ -13,7 +13,7 @@ const SAME: u32 = 0;
 const DIFFERENT: u32 = 1;
 
 #[repr(C)]
-#[derive(Drop)]
+#[derive(Clone, Copy)]
 pub struct StoredReply {
     pub refusal: u32,
     pub order: usize,
@@ -22,7 +22,7 @@ pub struct StoredReply {
 }
 
 #[repr(C)]
-#[derive(Drop)]
+#[derive(Clone, Copy)]
 pub struct RoundReply {
     pub refusal: u32,
     pub order: usize,

@@ -9,7 +9,7 @@ use rules::{
 };
 
 // A call on a list of words. All but the last are on a sheet, that of a view with a stored result behind it.
-#[derive(Drop)]
+#[derive(Clone, Copy)]
 enum ListCall {
     Check,
     Stepper,

@@ -5,13 +5,13 @@ ghost use Rattle.std.specs.Prelude.{◌≤◌, length};
 // result, and for more than that.
 pub(crate) const MOST: usize = 16384;
 
-#[derive(Drop)]
+#[derive(Clone, Copy)]
 pub(crate) enum Number {
     Is(u64),
     Unreadable,
 }
 
-#[derive(Drop)]
+#[derive(Clone, Copy)]
 pub(crate) enum Fields {
     Count(usize),
     Unreadable,
@@ -97,7 +97,7 @@ pub(crate) fn field_end(text: &[u8], from: usize) -> usize
 }
 
 // A decimal number that stands first in a text, after a space, and the place behind it.
-#[derive(Drop)]
+#[derive(Clone, Copy)]
 pub(crate) struct First {
     pub number: Number,
     pub end: usize,
@@ -118,7 +118,7 @@ pub(crate) fn first_number(text: &[u8]) -> First
 }
 
 // Whether the numbers that should stand first in a text are there, and the place behind them.
-#[derive(Drop)]
+#[derive(Clone, Copy)]
 pub(crate) struct Lead {
     pub readable: bool,
     pub end: usize,

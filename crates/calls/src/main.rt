@@ -11,7 +11,7 @@ mod view;
 use answers::answer;
 
 // A line that is being read: its length so far, and whether it is too long to be kept.
-#[derive(Drop)]
+#[derive(Clone, Copy)]
 struct Line {
     len: usize,
     lost: bool,
@@ -54,7 +54,7 @@ fn take_all(line: Line, bytes: &[u8], text: &mut [u8]) -> Line {
 }
 
 // Whether to go on, and the line that is being read.
-#[derive(Drop)]
+#[derive(Clone, Copy)]
 struct Read {
     more: bool,
     line: Line,

@@ -41,7 +41,7 @@ fn print_words(words: &[u32]) {
 }
 
 // What a call writes.
-#[derive(Drop)]
+#[derive(Clone, Copy)]
 pub(crate) enum Writes {
     FirstRound,
     Opening,

@@ -23,7 +23,7 @@ use lines::keys::{amount_in, number_in};
 use rules::{Auctioned, Heading, Pieces, Side, Total};
 
 // The fills of a round in all 120 places, and beside them their total.
-#[derive(Drop)]
+#[derive(Clone, Copy)]
 pub struct Filled {
     pub total: Total,
     pub fills: [Pieces; 120],

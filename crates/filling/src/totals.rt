@@ -19,7 +19,7 @@ use rules::Total;
 
 // A total that a side can lawfully reach, how many orders of its queue may get pieces of it, and the pieces of
 // these.
-#[derive(Drop)]
+#[derive(Clone, Copy)]
 pub(crate) struct Reached {
     pub total: Total,
     pub orders: usize,

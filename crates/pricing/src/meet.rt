@@ -12,7 +12,7 @@ use lines::keys::{amount_in, place_in};
 use rules::{LAST_PRICE, Total};
 
 // The pieces that meet, the orders of both sides that hold the next one, and the pieces before those orders.
-#[derive(Drop)]
+#[derive(Clone, Copy)]
 pub(crate) struct Met {
     pub volume: Total,
     pub buys: usize,

@@ -23,7 +23,7 @@ use pricing::auction_price;
 use rules::{Auctioned, Heading, Pieces, Price, Side, Total};
 
 // What a round gives, its fills in all 120 places.
-#[derive(Drop)]
+#[derive(Clone, Copy)]
 pub struct Round {
     pub situation: u32,
     pub price: Price,

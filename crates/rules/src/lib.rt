@@ -6,19 +6,19 @@ ghost use Rattle.rules.specs.Grid.{on_grid};
 ghost use Rattle.rules.specs.Answers.{fault_number, waiting_fault_number, refusal_number, refusal_place};
 
 // Clause 1.1: a price, in tens of hellers.
-#[derive(Drop)]
+#[derive(Clone, Copy)]
 pub struct Price(pub u32);
 
 // Clause 1.1: a number of pieces.
-#[derive(Drop)]
+#[derive(Clone, Copy)]
 pub struct Pieces(pub u32);
 
 // Clause 1.1: how far a Stepper goes past its best rival price, in tens of hellers too. It is a distance, and no price.
-#[derive(Drop)]
+#[derive(Clone, Copy)]
 pub struct QuotationStep(pub u32);
 
 // The pieces of several orders together. In 64 bits there is room for any 120 quantities.
-#[derive(Drop)]
+#[derive(Clone, Copy)]
 pub struct Total(pub u64);
 
 // The last price of the grid, which starts at 1.
@@ -32,27 +32,27 @@ pub fn on_grid(price: u32) -> bool
 }
 
 // Clause 1.5: a word of a sheet, of a result or of a waiting list.
-#[derive(Drop)]
+#[derive(Clone, Copy)]
 pub struct Word {
     pub kind: u32,
     pub value: u32,
 }
 
-#[derive(Drop)]
+#[derive(Clone, Copy)]
 pub enum Side {
     Buy,
     Sell,
 }
 
 // Clause 3.10: the terms of an order.
-#[derive(Drop)]
+#[derive(Clone, Copy)]
 pub enum Terms {
     WithoutLimit { all_or_none: bool },
     Limited { limit: Price, all_or_none: bool },
     Stepper { limit: Price, ignored: Pieces },
 }
 
-#[derive(Drop)]
+#[derive(Clone, Copy)]
 pub struct Order {
     pub side: Side,
     pub terms: Terms,
@@ -60,7 +60,7 @@ pub struct Order {
 }
 
 // An order as it stands in a round: its limit, entered or in force, and what remains of it.
-#[derive(Drop)]
+#[derive(Clone, Copy)]
 pub struct Standing {
     pub side: Side,
     pub limit: Price,
@@ -69,7 +69,7 @@ pub struct Standing {
 }
 
 // The situation of a round, 0 to 4, and its auction price.
-#[derive(Drop)]
+#[derive(Clone, Copy)]
 pub struct Auctioned {
     pub situation: u32,
     pub price: Price,
@@ -77,7 +77,7 @@ pub struct Auctioned {
 
 // The heading of a sheet: the band's bounds, the last purchase price, the indicative price, the number
 // of orders and the quotation step.
-#[derive(Drop)]
+#[derive(Clone, Copy)]
 pub struct Heading {
     pub lower: Price,
     pub upper: Price,
@@ -89,7 +89,7 @@ pub struct Heading {
 
 // Clause 9.10: whether a waiting phase is on, with the second of the day at which it started and its side,
 // 0 above and 1 below, on which a widening would move the band's bound.
-#[derive(Drop)]
+#[derive(Clone, Copy)]
 pub enum Phase {
     Idle,
     Waiting { start: u32, side: u32 },
@@ -97,7 +97,7 @@ pub enum Phase {
 
 // Clause 9.10: what the words of a waiting list lead to: the latest second said, the phase, the band's
 // bounds and how many openings are due.
-#[derive(Drop)]
+#[derive(Clone, Copy)]
 pub struct Clock {
     pub second: u32,
     pub phase: Phase,
@@ -108,7 +108,7 @@ pub struct Clock {
 
 // Clause 8.5: what is charged for a fill: so many ten-thousandths of its worth, and the least and the greatest
 // fee, in hellers.
-#[derive(Drop)]
+#[derive(Clone, Copy)]
 pub struct Tariff {
     pub rate: u32,
     pub least: u32,
@@ -116,14 +116,14 @@ pub struct Tariff {
 }
 
 // Clause 8.6: what an order gets in a round, and the round's purchase price.
-#[derive(Drop)]
+#[derive(Clone, Copy)]
 pub struct Trade {
     pub pieces: Pieces,
     pub purchase: Price,
 }
 
 // What may be wrong with an order.
-#[derive(Drop)]
+#[derive(Clone, Copy)]
 pub enum OrderFault {
     // A wrong kind in its three words.
     Kind,
@@ -136,7 +136,7 @@ pub enum OrderFault {
 }
 
 // What may be wrong with a word of a waiting list.
-#[derive(Drop)]
+#[derive(Clone, Copy)]
 pub enum WaitingFault {
     // A kind or a value that it may not have.
     Word,
@@ -147,7 +147,7 @@ pub enum WaitingFault {
 }
 
 // Why a call refuses.
-#[derive(Drop)]
+#[derive(Clone, Copy)]
 pub enum Refusal {
     // Fewer than 5 words.
     FewWords,
@@ -247,21 +247,21 @@ impl Refusal {
 }
 
 // The answer of the check of a sheet.
-#[derive(Drop)]
+#[derive(Clone, Copy)]
 pub enum Checked {
     Accepted,
     Refused(Refusal),
 }
 
 // The answer of a call that gives a price.
-#[derive(Drop)]
+#[derive(Clone, Copy)]
 pub enum PriceAnswer {
     At(Price),
     Refused(Refusal),
 }
 
 // The answer of the call that gives demand, supply and volume at a price.
-#[derive(Drop)]
+#[derive(Clone, Copy)]
 pub enum CurvesAnswer {
     At {
         demand: Total,
@@ -272,28 +272,28 @@ pub enum CurvesAnswer {
 }
 
 // The answer of a call that writes words into a lent space: how many it wrote, from the space's start.
-#[derive(Drop)]
+#[derive(Clone, Copy)]
 pub enum SpaceAnswer {
     Written(usize),
     Refused(Refusal),
 }
 
 // The answer of a call that gives a band.
-#[derive(Drop)]
+#[derive(Clone, Copy)]
 pub enum BandAnswer {
     Bounds { lower: Price, upper: Price },
     Refused(Refusal),
 }
 
 // The answer of the call that follows a waiting list: the clock that it leads to.
-#[derive(Drop)]
+#[derive(Clone, Copy)]
 pub enum WaitingAnswer {
     Stands(Clock),
     Refused(Refusal),
 }
 
 // Clause 10.6a: where two lists of words first differ.
-#[derive(Drop)]
+#[derive(Clone, Copy)]
 pub enum Difference {
     Nowhere,
     At(usize),
@@ -301,7 +301,7 @@ pub enum Difference {
 
 // The answer of the call that opens a stored result beside its sheet: that it opens, the place of the first difference,
 // or a refusal.
-#[derive(Drop)]
+#[derive(Clone, Copy)]
 pub enum OpensAnswer {
     Opened,
     Different(usize),
@@ -309,7 +309,7 @@ pub enum OpensAnswer {
 }
 
 // Clause 10.6c: what a round of a result says before its fills.
-#[derive(Drop)]
+#[derive(Clone, Copy)]
 pub struct Summary {
     pub situation: u32,
     pub price: Price,
@@ -318,7 +318,7 @@ pub struct Summary {
 }
 
 // What a page of an opened result says.
-#[derive(Drop)]
+#[derive(Clone, Copy)]
 pub enum PageAnswer {
     Says(Summary),
     Refused(Refusal),
@@ -326,7 +326,7 @@ pub enum PageAnswer {
 
 // The answer of the call that reads a round of a stored result: what it says, with the place of its first fill word and
 // how many there are; the place of the first difference; or a refusal.
-#[derive(Drop)]
+#[derive(Clone, Copy)]
 pub enum RoundAnswer {
     Reads {
         summary: Summary,

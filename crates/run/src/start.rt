@@ -7,7 +7,7 @@ use round::Round;
 use rules::{Heading, Order, Pieces, Price};
 
 // The last purchase price, and what remains of each order.
-#[derive(Drop)]
+#[derive(Clone, Copy)]
 pub(crate) struct Start {
     pub(crate) last: Price,
     pub(crate) remaining: [Pieces; 120],

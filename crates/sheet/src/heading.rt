@@ -8,7 +8,7 @@ use rules::{Heading, Price, QuotationStep, Refusal, Word, on_grid};
 use words::cursor::{Cursor, Step};
 
 // The first five words of a heading, and the place after them.
-#[derive(Drop)]
+#[derive(Clone, Copy)]
 pub(crate) struct HeadingWords {
     pub lower: Word,
     pub upper: Word,
@@ -19,7 +19,7 @@ pub(crate) struct HeadingWords {
 }
 
 // The heading and the place after it, or why it is refused.
-#[derive(Drop)]
+#[derive(Clone, Copy)]
 pub(crate) enum HeadingRead {
     Passed(Heading, Cursor),
     Refused(Refusal),

@@ -14,7 +14,7 @@ use rules::{
 use words::cursor::Cursor;
 
 // The three words of an order, and the place after them.
-#[derive(Drop)]
+#[derive(Clone, Copy)]
 pub(crate) struct OrderWords {
     pub first: Word,
     pub second: Word,
@@ -23,14 +23,14 @@ pub(crate) struct OrderWords {
 }
 
 // Whether an order passes its checks.
-#[derive(Drop)]
+#[derive(Clone, Copy)]
 pub(crate) enum OrderChecked {
     Passed,
     Faulty(OrderFault),
 }
 
 // An order and the place after it, or its fault.
-#[derive(Drop)]
+#[derive(Clone, Copy)]
 pub(crate) enum OrderRead {
     Passed(Order, Cursor),
     Faulty(OrderFault),

@@ -16,7 +16,7 @@ use rules::{OpensAnswer, PageAnswer, RoundAnswer};
 use sheet::order_count;
 
 // A view over the words of a stored result of n orders. Only `open_result` makes one.
-#[derive(Drop)]
+#[derive(Clone, Copy)]
 pub struct View<'a> {
     words: &'a [u32],
     n: usize,
@@ -24,7 +24,7 @@ pub struct View<'a> {
 
 // What opening a stored result gives: the answer and a view, which has no words, and so no rounds, where the
 // result does not open.
-#[derive(Drop)]
+#[derive(Clone, Copy)]
 pub struct OpenedResult<'a> {
     pub answer: OpensAnswer,
     pub view: View<'a>,
@@ -32,7 +32,7 @@ pub struct OpenedResult<'a> {
 
 // A round of a view: what it says, and its fill words, which are still a part of the stored list. Past the last
 // round there are none.
-#[derive(Drop)]
+#[derive(Clone, Copy)]
 pub struct Page<'a> {
     pub answer: PageAnswer,
     pub fills: &'a [u32],

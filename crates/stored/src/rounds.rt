@@ -25,7 +25,7 @@ pub fn rounds_in(words: &[u32], n: usize) -> usize
 }
 
 // Where a round begins, or that it is past the last.
-#[derive(Drop)]
+#[derive(Clone, Copy)]
 pub(crate) enum RoundPlace {
     At(usize),
     Beyond,

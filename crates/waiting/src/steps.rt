@@ -28,7 +28,7 @@ const UPPER: u32 = 0;
 const LOWER: u32 = 1;
 
 // The clock after a word, or the word's fault.
-#[derive(Drop)]
+#[derive(Clone, Copy)]
 pub(crate) enum Moved {
     To(Clock),
     Faulty(WaitingFault),

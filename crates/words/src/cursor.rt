@@ -6,13 +6,13 @@ use crate::word_of;
 use rules::Word;
 
 // A place in a list of words.
-#[derive(Drop)]
+#[derive(Clone, Copy)]
 pub struct Cursor {
     pub at: usize,
 }
 
 // The word at a place, and the place after it.
-#[derive(Drop)]
+#[derive(Clone, Copy)]
 pub struct Step {
     pub word: Word,
     pub next: Cursor,
