@@ -10,7 +10,7 @@ pub after_word-requires : goal.after_word-requires
 after_word-requires c = c.loop-cursor.invariant.sound
 
 pub returns-in-Faulty : goal.returns-in-Faulty
-returns-in-Faulty c = following_stops c.loop-cursor.invariant c.loop-cursor-test.true c.in-Faulty.is
+returns-in-Faulty c = following_stops c.loop-cursor.invariant c.loop-cursor-test.true _
     (rw (c.step-step.ensures, c.in-Faulty.is) at c.after_word.ensures)
 
 pub loop-cursor-smaller : goal.loop-cursor-smaller

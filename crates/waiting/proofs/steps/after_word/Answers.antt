@@ -1,7 +1,7 @@
 -- `after_word` meets its contract: its first test is refusal 13, the others tell what the word says.
-use mathlib.Core.Bool.{true}
-use mathlib.Core.Path.{◌≡◌, sym, ◌∙◌}
-use borrow.Author.Tests.{not-false, eq-eqb, ne_eqb}
+use mathlib.Core.Bool.{true, not}
+use mathlib.Core.Path.{◌≡◌, sym, ap, ◌∙◌}
+use borrow.Author.Tests.{eq-eqb, ne_eqb}
 use Rattle.claims.proofs.Waiting.{second_today}
 use Rattle.rules.specs.Waiting.{waiting_word, after_word, waiting_checks}
 use Rattle.rules.proofs.Downwards.{here, says_refused}
@@ -11,11 +11,11 @@ use Rattle.waiting.proofs.steps.after_word.Goals.{Else-not-waiting_word}
 
 pub returns-then-not-waiting_word : goal.returns-then-not-waiting_word
 unfolding waiting_checks
-returns-then-not-waiting_word c = λ i. says_refused _ (here (rw (← c.waiting_word.ensures) c.if-not-waiting_word.true))
+returns-then-not-waiting_word c = λ i. says_refused _ (here (ap not (sym c.waiting_word.ensures ∙ c.if-not-waiting_word.true)))
 
 -- a word that passes the first test
 known : (c : Else-not-waiting_word) → waiting_word c.args.word ≡ true
-known c = sym c.waiting_word.ensures ∙ not-false _ c.if-not-waiting_word.false
+known c = sym c.waiting_word.ensures ∙ c.if-not-waiting_word.false
 
 pub after_second-requires : goal.after_second-requires
 after_second-requires c = (c.requires, second_today c.args.word (known (goal.at.after_second-requires c).Else-not-waiting_word) (eq-eqb _ _ c.if-word-eq-SECOND.true))
