@@ -1,0 +1,10 @@
+-- `stepper_limit` meets its contract: what its reading promises of every sheet that reads so.
+use Rattle.auction.proofs.first.limit_in_first.Reads as limit-in-first-reads
+use Rattle.sheet.proofs.read_sheet.Reads as read-sheet-reads
+use Rattle.auction.proofs.stepper_limit.Goals as goal
+
+pub limit_in_first-requires : goal.limit_in_first-requires
+limit_in_first-requires c = record { words = c.args.words.now; reads = c.read_sheet.ensures }
+
+pub returns : goal.returns
+returns c = c.limit_in_first.ensures _ c.read_sheet.ensures
