@@ -67,7 +67,7 @@ module _ (whole part : Bor (List ℕ)) (n r : ℕ) where
       rw (lt-ltb r (rounds_for n whole.now) there.is, ← there.begins) (record { same = rw count at words; block = block; offset = omega arith })
 
   pub no_part : rounds_for n whole.now ≤ r → part.now ≡ take (0 - 0) (drop 0 whole.now)
-      → part.ptr.0 ≡ whole.ptr.0 → part.ptr.1 ≡ 0 * 4 + whole.ptr.1
+      → part.ref_ptr.0 ≡ whole.ref_ptr.0 → part.ref_ptr.1 ≡ 0 * 4 + whole.ref_ptr.1
       → PartOf whole part (fills_from n whole.now r) (fills_count n whole.now r)
   unfolding fills_from fills_count
   no_part past words block offset =
