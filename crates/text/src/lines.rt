@@ -11,7 +11,8 @@ fn put(bytes: &[u8], end: u8, out: &mut [u8]) -> usize
     requires { length bytes.now < length out.old }
     ensures { InFront (bytes.now ++ (end ∷ [])) out.old out.new result }
 {
-    let count = bytes::copy(bytes, out);
+    let count = bytes.len();
+    out[..count].copy_from_slice(bytes);
     out[count] = end;
     count + 1
 }
