@@ -3,7 +3,7 @@
 #![tactic(auto)]
 
 pub mod input;
-pub mod lines;
+pub mod printed_lines;
 pub mod listing;
 
 ghost use Rattle.std.specs.Prelude.{◌≤◌, ◌*◌, ◌/◌, ◌≡◌, length};
@@ -14,7 +14,7 @@ ghost use Rattle.rules.specs.Opening.{opening_words};
 ghost use Rattle.rules.specs.Sheet.{sheet_checks};
 
 use input::{input_fits, read_words};
-use lines::{write_lines, write_refusal};
+use printed_lines::{write_lines, write_refusal};
 use rules::{Refusal, SpaceAnswer};
 
 // The bytes of the longest sheet.

@@ -8,7 +8,7 @@ pub write_answer-requires : goal.write_answer-requires
 write_answer-requires c = let opened = c.opening-answer in
     (
       omega (arith, c.requires.2),
-      omega (arith, c.requires.1, c.requires.2, opened.auto.1.0),
+      omega (arith, c.requires.1, c.requires.2, opened.auto.space),
       written_within opened.result opened.ensures.writes,
     )
 

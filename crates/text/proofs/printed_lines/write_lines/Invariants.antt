@@ -3,7 +3,7 @@
 use Prim.Native.Nat.{◌-◌}
 use Rattle.text.proofs.Printing.{Lined}
 use lib.ListN.{length}
-use Rattle.text.proofs.lines.write_lines.Given as goal
+use Rattle.text.proofs.printed_lines.write_lines.Given as goal
 
 abbrev pub invariant-loop-i : goal.invariant-loop-i
 invariant-loop-i l = Lined l.words l.initial.out l.out l.at l.i

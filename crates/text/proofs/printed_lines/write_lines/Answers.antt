@@ -2,7 +2,7 @@ use Prim.Native.Nat.{◌-◌}
 use Rattle.text.proofs.Printing.{lined_none, lined_at, lined_length, line_count, lined_more, lined_all}
 use lib.ListN.{length-take, length-drop}
 use native.Mathlib.Omega.{arith}
-use Rattle.text.proofs.lines.write_lines.Goals as goal
+use Rattle.text.proofs.printed_lines.write_lines.Goals as goal
 
 pub loop-i-init : goal.loop-i-init
 loop-i-init c = lined_none _ _
