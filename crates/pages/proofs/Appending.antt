@@ -11,18 +11,15 @@ use Rattle.rules.specs.Listing.{InFront}
 use Rattle.pages.specs.Steps.{Appends}
 
 -- bytes come by a copy into the rest of the space
-pub copy_appends : (bytes before : List ℕ) (at : ℕ) {copied : List ℕ} {count : ℕ} → at + length bytes ≤ length before
-    → count ≡ length bytes
-    → copied ≡ take (length bytes) bytes ++ drop (length bytes) (take (length before - at) (drop at before))
-    → Appends (length bytes) bytes before (take at before ++ (copied ++ drop (length before - at) (drop at before))) at (at + count)
-copy_appends bytes before at {copied} {count} fits e copies =
-    let whole : length (drop at before) ≤ length before - at = omega (arith, length-drop at before) in
+pub copy_appends : (bytes before : List ℕ) (at : ℕ) {copied : List ℕ} → at + length bytes ≤ length before → copied ≡ bytes
+    → Appends (length bytes) bytes before (take at before ++ (copied ++ drop (at + length bytes - at) (drop at before))) at (at + length bytes)
+copy_appends bytes before at {copied} fits copies =
+    let count : at + length bytes - at ≡ length bytes = omega arith in
     record {
-      ends = omega arith;
+      ends = refl;
       small = omega arith;
       room = omega arith;
-      holds = rw (drop_of_length-le (drop at before) whole, append-nil copied, copies, e, take-length bytes)
-          (rw (take_all (length before - at) (drop at before) whole, drop-drop (length bytes) at before) refl);
+      holds = rw (copies, count, drop-drop (length bytes) at before) refl;
     }
 
 pub nothing_appended : (space : List ℕ) {at : ℕ} → at ≤ length space → Appends 0 [] space space at at

@@ -9,8 +9,9 @@ pub(crate) fn put(bytes: &[u8], at: usize, out: &mut [u8]) -> usize
     requires { at + length bytes.now ≤ length out.old }
     ensures { Appends (length bytes.now) bytes.now out.old out.new at result }
 {
-    let count = bytes::copy(bytes, &mut out[at..]);
-    at + count
+    let end = at + bytes.len();
+    out[at..end].copy_from_slice(bytes);
+    end
 }
 
 // A number in decimal. No number of 64 bits has more than 20 figures.
