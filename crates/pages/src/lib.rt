@@ -17,8 +17,8 @@ use rounds::{write_different, write_no_listing, write_opened};
 use rules::{Checked, Heading, OpensAnswer, Order, Refusal};
 use sheet::read_sheet;
 use text::input::{input_fits, read_words};
-use text::printed_lines::write_refusal;
 use text::listing::{listing_fits, read_result};
+use text::printed_lines::write_refusal;
 
 // The text of a stored result beside the accepted sheet that has this heading and these orders.
 fn write_stored(

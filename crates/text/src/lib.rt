@@ -3,8 +3,8 @@
 #![tactic(auto)]
 
 pub mod input;
-pub mod printed_lines;
 pub mod listing;
+pub mod printed_lines;
 
 ghost use Rattle.std.specs.Prelude.{◌≤◌, ◌*◌, ◌/◌, ◌≡◌, length};
 ghost use Rattle.claims.specs.Fits.{Within};

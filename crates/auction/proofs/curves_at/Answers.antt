@@ -1,6 +1,4 @@
 -- `curves_at` meets its contract: what its reading promises of every sheet that reads so.
-use Rattle.auction.proofs.first.curves_in_first.Reads as curves-in-first-reads
-use Rattle.sheet.proofs.read_sheet.Reads as read-sheet-reads
 use Rattle.auction.proofs.curves_at.Goals as goal
 
 pub returns : goal.returns

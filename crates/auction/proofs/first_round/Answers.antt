@@ -1,7 +1,5 @@
 -- `first_round` meets its contract: the answer and the space are those of the rules, and what is claimed of them follows.
 use Rattle.claims.proofs.CallsHold.{first_round_holds}
-use Rattle.auction.proofs.first.round_in_first.Reads as round-in-first-reads
-use Rattle.sheet.proofs.read_sheet.Reads as read-sheet-reads
 use Rattle.auction.proofs.first_round.Goals as goal
 
 pub round_in_first-requires : goal.round_in_first-requires

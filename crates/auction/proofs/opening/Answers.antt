@@ -1,7 +1,5 @@
 -- `opening` meets its contract: the answer and the space are those of the rules, and what is claimed of them follows.
 use Rattle.claims.proofs.CallsHold.{opening_holds}
-use Rattle.auction.proofs.whole.opening_of.Reads as opening-of-reads
-use Rattle.sheet.proofs.read_sheet.Reads as read-sheet-reads
 use Rattle.auction.proofs.opening.Goals as goal
 
 pub opening_of-requires : goal.opening_of-requires

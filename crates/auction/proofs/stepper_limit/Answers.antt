@@ -1,6 +1,4 @@
 -- `stepper_limit` meets its contract: what its reading promises of every sheet that reads so.
-use Rattle.auction.proofs.first.limit_in_first.Reads as limit-in-first-reads
-use Rattle.sheet.proofs.read_sheet.Reads as read-sheet-reads
 use Rattle.auction.proofs.stepper_limit.Goals as goal
 
 pub limit_in_first-requires : goal.limit_in_first-requires

@@ -12,7 +12,7 @@ returns-then-lower-eq1 c = rw (le-ltb 1000000 c.args.upper.0 c.requires.2, eq-eq
 pub returns : goal.returns
 unfolding widened_for widened_upper widened_lower downwards
 returns c = rw (
-      le-ltb 1000000 c.args.upper.0 c.requires.2,
-      ne_eqb _ _ c.if-lower-eq1.false,
-      c.lesser-wider.ensures,
-    )
+  le-ltb 1000000 c.args.upper.0 c.requires.2,
+  ne_eqb _ _ c.if-lower-eq1.false,
+  c.lesser-wider.ensures,
+)

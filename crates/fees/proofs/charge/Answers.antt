@@ -1,8 +1,7 @@
 use mathlib.Core.Path.{◌≡◌, ◌∙◌}
-use Prim.Native.Nat.{◌-◌, zero-le}
+use Prim.Native.Nat.{zero-le}
 use native.Mathlib.Omega.{arith}
 use Rattle.rules.proofs.Painting.{painted_none, painted_more, painted_length}
-use Rattle.rules.specs.Fees.{order_fee}
 use Rattle.fees.specs.Trades.{fees_in}
 use Rattle.fees.proofs.charge.Goals as goal
 
@@ -17,9 +16,9 @@ bounds-fees-order c = omega (arith, painted_length c.loop-order.invariant.1, c.l
 
 pub loop-order-preserved : goal.loop-order-preserved
 loop-order-preserved c = (
-      omega (arith, c.loop-order-test.true),
-      painted_more c.loop-order.invariant.1 0 (omega (arith, c.loop-order-test.true, c.requires.1)) c.order_fee.ensures,
-    )
+  omega (arith, c.loop-order-test.true),
+  painted_more c.loop-order.invariant.1 0 (omega (arith, c.loop-order-test.true, c.requires.1)) c.order_fee.ensures,
+)
 
 pub returns : goal.returns
 unfolding fees_in

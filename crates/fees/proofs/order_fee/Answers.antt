@@ -1,5 +1,5 @@
 use mathlib.Core.Path.{◌≡◌}
-use Prim.Native.Nat.{◌+◌, ◌-◌, ◌*◌, ◌/◌, ◌≤◌, ◌<◌, zero-le}
+use Prim.Native.Nat.{◌+◌, ◌*◌, ◌/◌, ◌≤◌, ◌<◌, zero-le}
 use native.Mathlib.Nat.{div-le_self}
 use native.Mathlib.Omega.{arith}
 use lib.ListN.{length}
@@ -51,9 +51,9 @@ overflow_add-round c = omega (arith, few_rounds (goal.at.overflow_add-round c).I
 
 pub loop-round-preserved : goal.loop-round-preserved
 loop-round-preserved c = (
-      omega (arith, c.loop-round-test.true),
-      rw (c.loop-round.invariant.1, c.fill_fee-fee.ensures, c.trade_at.ensures) (fee_more _ (trade_in _ _ _) c.loop-round.round),
-    )
+  omega (arith, c.loop-round-test.true),
+  rw (c.loop-round.invariant.1, c.fill_fee-fee.ensures, c.trade_at.ensures) (fee_more _ (trade_in _ _ _) c.loop-round.round),
+)
 
 pub returns : goal.returns
 returns c = let over : c.loop-round.round ≡ length c.args.words.now / (c.args.count + 4) =

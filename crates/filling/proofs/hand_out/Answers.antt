@@ -1,4 +1,3 @@
-use Prim.Native.Nat.{◌-◌}
 use native.Mathlib.Omega.{arith}
 use Rattle.rules.proofs.Tests.{tests}
 use Rattle.filling.proofs.Handing.{handed_none, handed_more, handed_enough, handed_end}

@@ -1,7 +1,5 @@
 -- `settle` meets its contract: the fills of the rules, and the purchase price by their total.
 use Rattle.round.proofs.OneRound.{settled_is}
-use Rattle.filling.proofs.fills_of.Reads as fills-of-reads
-use Rattle.round.proofs.purchase_price.Reads as purchase-price-reads
 use Rattle.round.proofs.settle.Goals as goal
 
 pub returns : goal.returns

@@ -3,7 +3,6 @@ use mathlib.Core.Path.{◌≡◌, sym, ◌∙◌}
 use Prim.Native.Nat.{ℕ, ◌+◌, ◌-◌, ◌*◌, ◌≤◌, ◌<◌}
 use native.Mathlib.Omega.{arith}
 use lib.ListN.{length, take, drop, length-take, length-drop}
-use borrow.Author.Tests.{not-true, not-false}
 use borrow.Rule.Slice.PartMut.{same_len_mid}
 use Rattle.book.specs.Filed.{filed_in, remaining_in}
 use Rattle.round.specs.HandedBack.{handed_back, with_places}
@@ -99,7 +98,7 @@ pub slice_bounds-write_round-count : goal.slice_bounds-write_round-count
 slice_bounds-write_round-count c = let ends = inside (goal.at.slice_bounds-write_round-count c).At-loop-bids in omega arith
 
 pub write_round-requires : goal.write_round-requires
-write_round-requires c = 
+write_round-requires c =
     let at = (goal.at.write_round-requires c).At-loop-bids in
     let sheet = c.requires.0 in
     let ends = inside at in (
@@ -143,7 +142,7 @@ pub overflow_add-result : goal.overflow_add-result
 overflow_add-result c = let ends = inside (goal.at.overflow_add-result c).At-loop-bids in omega arith
 
 pub returns-then-not-goes_on : goal.returns-then-not-goes_on
-returns-then-not-goes_on c = 
+returns-then-not-goes_on c =
     let at = (goal.at.returns-then-not-goes_on c).At-loop-bids in
     λ ws a.
     let v = running at ws a in
@@ -153,7 +152,7 @@ returns-then-not-goes_on c =
     c.ending_after.ensures c.word.ensures
 
 pub loop-bids-smaller : goal.loop-bids-smaller
-loop-bids-smaller c = 
+loop-bids-smaller c =
     let at = (goal.at.loop-bids-smaller c).At-loop-bids in
     let sheet = c.requires.0 in
     rw c.after-start.ensures

@@ -1,7 +1,7 @@
 -- `run_rounds` meets its contract. The invariant, `Running`, is said of every accepted sheet with this heading and these orders; the measure is
 -- the number of orders with pieces left.
 use mathlib.Core.List.{List}
-use Prim.Native.Nat.{ℕ, ◌-◌}
+use Prim.Native.Nat.{ℕ}
 use Rattle.claims.proofs.Rounds.{live}
 use Rattle.rules.specs.declared.Order.{Order}
 use Rattle.run.proofs.Places.{rules_start}

@@ -26,10 +26,10 @@ slice_bounds-write_opening-end c = simp length-take (omega (arith, few_words _ (
 
 pub write_opening-requires : goal.write_opening-requires
 write_opening-requires c = let fit = fits (goal.at.write_opening-requires c).Else-not-input_fits in (
-      simp length-take (omega (arith, whole_words _ fit, few_words _ fit, c.sheet_space-words.ensures)),
-      sym c.result_space-space.ensures,
-      search rules,
-    )
+  simp length-take (omega (arith, whole_words _ fit, few_words _ fit, c.sheet_space-words.ensures)),
+  sym c.result_space-space.ensures,
+  search rules,
+)
 
 pub returns : goal.returns
 returns c = let fit = fits (goal.at.returns c).Else-not-input_fits in

@@ -1,4 +1,3 @@
-use Prim.Native.Nat.{◌-◌}
 use native.Mathlib.Omega.{arith}
 use Rattle.waiting.proofs.Laws.{following_none, following_more, following_stops, following_all}
 use Rattle.waiting.proofs.follow.Goals as goal

@@ -41,7 +41,7 @@ slice_bounds-charge-end-in-Written c =
     (omega (arith, words_fit _ (answered_as (Written _) c.in-Written.is (c.opening_of-opened.ensures _ c.requires.reads))))
 
 pub charge-requires : goal.charge-requires
-charge-requires c = 
+charge-requires c =
     let at = (goal.at.charge-requires c).After-opening_of-opened in
     let reads = c.requires.reads in (
       words_chargeable (accepted at _ reads) _ (stands at) _
@@ -53,13 +53,13 @@ pub returns-in-Refused : goal.returns-in-Refused
 returns-in-Refused c = λ ws reads. sheet_refused reads c.in-Refused.is
 
 pub returns-in-Refused-opened : goal.returns-in-Refused-opened
-returns-in-Refused-opened c = 
+returns-in-Refused-opened c =
     let at = (goal.at.returns-in-Refused-opened c).After-opening_of-opened in
     λ ws reads.
     space_refused (accepted at ws reads) _ (stands at) (answered_as (Refused _) c.in-Refused-opened.is (c.opening_of-opened.ensures ws reads)) _ c.if-fees-count.false
 
 pub returns-in-Written : goal.returns-in-Written
-returns-in-Written c = 
+returns-in-Written c =
     let at = (goal.at.returns-in-Written c).After-opening_of-opened in
     λ ws reads.
     fees_written (accepted at ws reads) _ (stands at) _ (answered_as (Written _) c.in-Written.is (c.opening_of-opened.ensures ws reads)) _ c.if-fees-count.false

@@ -4,10 +4,6 @@ use Rattle.auction.proofs.FirstRound.{off_grid, curves_stand, accepted_as, curve
 use mathlib.Core.Path.{sym, ◌∙◌}
 use lib.ListN.{length-take}
 use native.Mathlib.Omega.{arith}
-use Rattle.auction.proofs.first.first_line.Reads as first-line-reads
-use Rattle.lines.proofs.keys.place_of.Reads as place-of-reads
-use Rattle.lines.proofs.line.pieces_at.Reads as pieces-at-reads
-use Rattle.rules.proofs.on_grid.Reads as on-grid-reads
 use Rattle.auction.proofs.first.curves_in_first.Goals as goal
 
 pub returns-then-not-on_grid : goal.returns-then-not-on_grid

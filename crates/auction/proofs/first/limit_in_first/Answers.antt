@@ -5,11 +5,6 @@ use mathlib.Core.Bool.{not}
 use mathlib.Core.Path.{sym, ap, ◌∙◌}
 use lib.ListN.{length-take}
 use native.Mathlib.Omega.{arith}
-use Rattle.auction.proofs.first.has_order.Reads as has-order-reads
-use Rattle.auction.proofs.first.first_line.Reads as first-line-reads
-use Rattle.auction.proofs.first.is_stepper.Reads as is-stepper-reads
-use Rattle.lines.proofs.keys.price_at.Reads as price-at-reads
-use Rattle.lines.proofs.line.place_of_order.Reads as place-of-order-reads
 use Rattle.auction.proofs.first.limit_in_first.Goals as goal
 
 pub returns-then-not-has_order : goal.returns-then-not-has_order

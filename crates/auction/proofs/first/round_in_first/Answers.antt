@@ -14,9 +14,6 @@ use native.Mathlib.Omega.{arith}
 use Prim.Native.Nat.{ℕ, ◌+◌}
 use mathlib.Core.Path.{◌≡◌, refl, ap, ◌∙◌}
 use mathlib.Core.List.{List}
-use Rattle.book.proofs.entering.book_of.Reads as book-of-reads
-use Rattle.round.proofs.round_of.Reads as round-of-reads
-use Rattle.round.proofs.writing.write_round.Reads as write-round-reads
 use Rattle.auction.proofs.first.round_in_first.Goals as goal
 use Rattle.auction.proofs.first.round_in_first.Goals.{After-round_of-round}
 
@@ -56,9 +53,8 @@ round_of-round-requires c = let book = c.book_of-book.ensures in
     simp length-take (omega (arith, book.few_buys, book.bids_long, book.few_sells, book.asks_long))
 
 pub write_round-requires : goal.write_round-requires
-write_round-requires c = 
-    let at = (goal.at.write_round-requires c).After-round_of-round in
-    (
+write_round-requires c =
+    let at = (goal.at.write_round-requires c).After-round_of-round in (
       few_of_sheet (sheet at),
       part_words c.args.space.now c.if-space-size.false,
       fits_its_words (sheet at) c.quantities-filed.ensures c.round_of-round.result (given at (sheet at).accepted),

@@ -3,8 +3,6 @@
 use Rattle.auction.proofs.WholeOpening.{opening_too_small, opening_written, opening_refused}
 use Rattle.auction.proofs.FirstRound.{accepted_as, of_sheet}
 use Rattle.run.proofs.Accepted.{few_of_sheet}
-use Rattle.auction.proofs.whole.space_needed.Reads as space-needed-reads
-use Rattle.run.proofs.run_rounds.Reads as run-rounds-reads
 use Rattle.auction.proofs.whole.opening_of.Goals as goal
 
 pub space_needed-requires : goal.space_needed-requires

@@ -1,4 +1,3 @@
-use Prim.Native.Nat.{◌-◌}
 use native.Mathlib.Omega.{arith}
 use Rattle.pages.proofs.Appending.{appended_length}
 use Rattle.pages.proofs.Telling.{fill_at}

@@ -1,5 +1,5 @@
 use mathlib.Core.Path.{sym, ◌∙◌}
-use Prim.Native.Nat.{◌+◌, ◌-◌}
+use Prim.Native.Nat.{◌+◌}
 use native.Mathlib.Omega.{arith}
 use Rattle.rules.proofs.Tests.{tests}
 use Rattle.pricing.proofs.Meeting.{Both, both_meet, one_passed, walked_none, walked_more, walked_all}
@@ -29,7 +29,7 @@ pub overflow_add-supply : goal.overflow_add-supply
 overflow_add-supply c = omega (arith, c.loop-volume.invariant.sell.most, (there (goal.at.overflow_add-supply c).In-loop-volume).sell, c.requires.1, c.amount_in-in-loop-volume.ensures.1)
 
 pub loop-volume-smaller : goal.loop-volume-smaller
-loop-volume-smaller c = 
+loop-volume-smaller c =
     let at = (goal.at.loop-volume-smaller c).In-loop-volume in
     let l = c.loop-volume in
     omega (

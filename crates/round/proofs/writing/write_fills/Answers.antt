@@ -1,6 +1,4 @@
-use Prim.Native.Nat.{◌-◌}
 use native.Mathlib.Omega.{arith}
-use Rattle.rules.specs.Words.{word}
 use Rattle.rules.proofs.Painting.{painted_none, painted_more, painted_length, painted_all}
 use Rattle.round.proofs.writing.write_fills.Goals as goal
 

@@ -1,7 +1,7 @@
 -- `write_round` meets its contract: four stores, then the part from the fifth word on is lent for the fills.
 use mathlib.Core.List.{List}
 use mathlib.Core.Path.{sym, ◌∙◌}
-use Prim.Native.Nat.{ℕ, ◌-◌}
+use Prim.Native.Nat.{ℕ}
 use native.Mathlib.Omega.{arith}
 use lib.ListN.{length-set, length-take, length-drop}
 use Rattle.lines.specs.Pieces.{pieces_of}
@@ -26,10 +26,10 @@ slice_bounds-write_fills-count c = simp length-set (omega arith)
 
 pub write_fills-requires : goal.write_fills-requires
 write_fills-requires c = (
-      c.requires.0,
-      simp (length-take, length-drop, length-set) (omega (arith, c.requires.1)),
-      fills_fit _ c.args.round c.requires.2,
-    )
+  c.requires.0,
+  simp (length-take, length-drop, length-set) (omega (arith, c.requires.1)),
+  fills_fit _ c.args.round c.requires.2,
+)
 
 -- the part after the four stores
 stores : (c : After-slice_known-2-1) → List ℕ

@@ -1,5 +1,5 @@
 use mathlib.Core.Path.{refl, ap}
-use Prim.Native.Nat.{ℕ, ◌-◌}
+use Prim.Native.Nat.{ℕ}
 use Rattle.rules.proofs.Painting.{painted_none, painted_more, painted_all}
 use Rattle.run.specs.Starts.{less_fills}
 use Rattle.run.proofs.start.less_fills.Goals as goal

@@ -1,5 +1,4 @@
 use mathlib.Core.Path.{refl, ◌∙◌}
-use Prim.Native.Nat.{◌-◌}
 use native.Mathlib.Omega.{arith}
 use Rattle.run.proofs.Places.{quantities_are}
 use Rattle.rules.proofs.Painting.{painted_none, painted_more, painted_all}

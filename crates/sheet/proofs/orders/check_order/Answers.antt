@@ -31,13 +31,13 @@ returns-then-kinds c k = says_refused _ (here (kinds (goal.at.returns-then-kinds
 
 pub returns-then-terms : goal.returns-then-terms
 unfolding order_checks
-returns-then-terms c k = 
+returns-then-terms c k =
     let at = (goal.at.returns-then-terms c).After-wrong_ignored-ignored in
     says_refused _ (there (kinds at c.if-kinds.false) (here (terms at c.if-terms.true)))
 
 pub returns-then-quantity : goal.returns-then-quantity
 unfolding order_checks
-returns-then-quantity c k = 
+returns-then-quantity c k =
     let at = (goal.at.returns-then-quantity c).After-wrong_ignored-ignored in
     says_refused _
     (there (kinds at c.if-kinds.false)
@@ -46,7 +46,7 @@ returns-then-quantity c k =
 
 pub returns-then-ignored : goal.returns-then-ignored
 unfolding order_checks
-returns-then-ignored c k = 
+returns-then-ignored c k =
     let at = (goal.at.returns-then-ignored c).After-wrong_ignored-ignored in
     says_refused _
     (there (kinds at c.if-kinds.false)
@@ -56,7 +56,7 @@ returns-then-ignored c k =
 
 pub returns : goal.returns
 unfolding order_checks
-returns c k = 
+returns c k =
     let at = (goal.at.returns c).After-wrong_ignored-ignored in
     says_nothing _
     (passed (kinds at c.if-kinds.false)

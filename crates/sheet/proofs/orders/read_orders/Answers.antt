@@ -1,4 +1,3 @@
-use Prim.Native.Nat.{◌-◌}
 use Rattle.sheet.proofs.Laws.{so_far_none, so_far_more, faulty_reading, accepted_reading}
 use Rattle.sheet.proofs.orders.read_orders.Goals as goal
 

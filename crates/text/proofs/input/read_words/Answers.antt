@@ -1,6 +1,5 @@
-use Prim.Native.Nat.{◌-◌}
 use Rattle.rules.proofs.Painting.{painted_none, painted_more, painted_length, painted_all}
-use Rattle.rules.specs.Listing.{word_in, sheet_in}
+use Rattle.rules.specs.Listing.{sheet_in}
 use native.Mathlib.Omega.{arith}
 use Rattle.text.proofs.input.read_words.Goals as goal
 

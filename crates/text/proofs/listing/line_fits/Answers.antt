@@ -1,6 +1,5 @@
 use mathlib.Core.Bool.{true}
 use mathlib.Core.Path.{ap}
-use Prim.Native.Nat.{◌-◌}
 use lib.Dec.{ltb}
 use Rattle.rules.specs.Pages.{line_fits}
 use Rattle.text.proofs.Reading.{tested_none, tested_more, tested_all}

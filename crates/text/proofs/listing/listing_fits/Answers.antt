@@ -1,4 +1,3 @@
-use Prim.Native.Nat.{◌-◌}
 use Rattle.rules.specs.Pages.{listing_fits}
 use Rattle.text.proofs.Reading.{tested_none, tested_more, tested_all}
 use Rattle.text.proofs.listing.listing_fits.Goals as goal

@@ -1,7 +1,6 @@
-use Prim.Native.Nat.{◌-◌}
 use native.Mathlib.Omega.{arith}
 use Rattle.rules.proofs.Painting.{painted_none, painted_more, painted_length, painted_all}
-use Rattle.rules.specs.Pages.{word_on, result_in}
+use Rattle.rules.specs.Pages.{result_in}
 use Rattle.text.proofs.Reading.{line_listed}
 use Rattle.text.proofs.listing.read_result.Goals as goal
 

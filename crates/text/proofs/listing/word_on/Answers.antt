@@ -1,4 +1,3 @@
-use Prim.Native.Nat.{◌-◌}
 use native.Mathlib.Omega.{arith}
 use Rattle.text.proofs.Reading.{spelled_none, spelled_more, spelled_fits, spelled_all}
 use Rattle.text.proofs.listing.word_on.Goals as goal

@@ -1,4 +1,3 @@
-use Prim.Native.Nat.{◌-◌}
 use Rattle.text.proofs.Printing.{lined_none, lined_at, lined_length, line_count, lined_more, lined_all}
 use lib.ListN.{length-take, length-drop}
 use native.Mathlib.Omega.{arith}

@@ -1,5 +1,4 @@
 -- `Cursor::step` meets its contract: the word at the place, and the place after it.
-use Rattle.words.proofs.word_of.Reads as word-of-reads
 use Rattle.words.proofs.cursor.Cursor.step.Goals as goal
 
 pub returns : goal.returns
