@@ -5,32 +5,24 @@
 
 ghost use Rattle.std.specs.Prelude.{◌≤◌, length};
 
-fn main() {
-    if os::arg_count() == 3 {
-        archive();
-    } else {
-        help();
-    }
-}
+use std::env::FillError;
+use std::fs::File;
+use std::io::{ErrorKind, Read};
+use std::rt::{Env, Files};
+use std::{io, str};
 
-fn archive() {
-    // One byte more than a sheet and a result may have, so that a file that is too long shows.
-    let mut sheet = [0u8; text::MOST_BYTES + 1];
-    let mut result = [0u8; text::listing::MOST_LISTED + 1];
-    let of_sheet = take(1, &mut sheet);
-    let of_result = take(2, &mut result);
-    let bytes = of_sheet.count;
-    let lines = of_result.count;
-    if !of_sheet.readable {
-        io::write_all(2, b"archive: the sheet could not be read\n");
-        return;
-    }
-    if !of_result.readable {
-        io::write_all(2, b"archive: the result could not be read\n");
-        return;
-    }
-    print_archived(&sheet[..bytes], &result[..lines]);
-}
+const HELP: &str = "\
+archive SHEET RESULT
+
+Reads a round sheet and the stored result of its opening from two files, as the opening
+program reads and prints them: 32-bit words with the high byte first, and lines of 8
+hexadecimal digits. If the result is just what the sheet's opening writes, it is printed
+round by round in words: situation, prices, total, who gets how many pieces, and how it
+ended. Else the first difference is said. A sheet with a fault is answered by one line:
+refused, the number of the refusal, and the number of the order at fault, or 0.
+
+docs/READING.md explains the words, docs/RULES.md the rules and the refusals.
+";
 
 // How many bytes were read from a file, and whether it could be read.
 #[derive(Clone, Copy)]
@@ -39,50 +31,92 @@ struct Taken {
     readable: bool,
 }
 
-// Reads the file that an argument names. A name that is too long names no file.
-fn take(argument: usize, bytes: &mut [u8]) -> Taken
+const UNREADABLE: Taken = Taken {
+    count: 0,
+    readable: false,
+};
+
+// Reads until the bytes are full or the file ends. A read that a signal cut short is tried again.
+fn read_full(file: &mut impl Read, bytes: &mut [u8]) -> Taken
     ensures { result.count ≤ length bytes.new }
 {
-    let mut name = io::buffer();
-    let size = os::arg(argument, &mut name);
-    let file = os::open_read(&name[..size]);
-    if file < 0 {
-        return Taken {
-            count: 0,
-            readable: false,
-        };
+    let mut count = 0;
+    for _ in 0..u64::MAX {
+        match file.read(&mut bytes[count..]) {
+            Ok(0) => {
+                return Taken {
+                    count,
+                    readable: true,
+                };
+            }
+            Ok(more) => count += more,
+            Err(error) if error.kind() == ErrorKind::Interrupted => {}
+            Err(_) => break,
+        }
     }
-    let count = io::read_full(file, bytes);
-    // A read that fails ends the file as its end does; one more read tells which it was.
-    let mut more = [0u8; 1];
-    let readable = 0 <= libc::read(file, &mut more);
-    Taken { count, readable }
+    UNREADABLE
 }
 
-fn print_archived(sheet: &[u8], res: &[u8]) {
-    let mut out = [0u8; 930000];
-    let count = pages::archive_text(sheet, res, &mut out);
-    if !io::write_all(1, &out[..count]) {
-        io::write_all(2, b"archive: not all of the text was written\n");
+// Reads the file that an argument names. A name that is too long, or no UTF-8 text, names no file.
+fn take(rt: &(impl Env + Files), argument: usize, bytes: &mut [u8]) -> Taken
+    ensures { result.count ≤ length bytes.new }
+{
+    let mut name = [0u8; 4096];
+    let Ok(size) = rt.arg(argument, &mut name) else {
+        return UNREADABLE;
+    };
+    let Ok(name) = str::from_utf8(&name[..size]) else {
+        return UNREADABLE;
+    };
+    let Ok(mut file) = File::open(rt, name) else {
+        return UNREADABLE;
+    };
+    read_full(&mut file, bytes)
+}
+
+fn print_archived(rt: &(impl Print + Eprint + Alloc), sheet: &[u8], res: &[u8]) -> io::Result<()> {
+    let mut out = vec![in rt.alloc(); 0u8; 930000]?;
+    let Some(out) = out.as_mut_array() else {
+        unreachable!()
+    };
+    let count = pages::archive_text(sheet, res, out);
+    if rt.write_all(&out[..count]).is_err() {
+        let _ = rt.eprintln("archive: not all of the text was written");
     }
+    Ok(())
 }
 
-fn say(line: &[u8]) {
-    io::write_all(1, line);
-    io::write_all(1, b"\n");
+fn archive<R: Env + Files + Print + Eprint + Alloc>(rt: &R) -> io::Result<()> {
+    // One byte more than a sheet and a result may have, so that a file that is too long shows.
+    let mut sheet = [0u8; text::MOST_BYTES + 1];
+    let mut result = vec![in rt.alloc(); 0u8; text::listing::MOST_LISTED + 1]?;
+    let of_sheet = take(rt, 1, &mut sheet);
+    let of_result = take(rt, 2, &mut result);
+    if !of_sheet.readable {
+        let _ = rt.eprintln("archive: the sheet could not be read");
+        return Ok(());
+    }
+    if !of_result.readable {
+        let _ = rt.eprintln("archive: the result could not be read");
+        return Ok(());
+    }
+    print_archived(rt, &sheet[..of_sheet.count], &result[..of_result.count])
 }
 
-fn help() {
-    say(b"archive SHEET RESULT");
-    say(b"");
-    say(b"Reads a round sheet and the stored result of its opening from two files, as the opening");
-    say(b"program reads and prints them: 32-bit words with the high byte first, and lines of 8");
-    say(
-        b"hexadecimal digits. If the result is just what the sheet's opening writes, it is printed",
-    );
-    say(b"round by round in words: situation, prices, total, who gets how many pieces, and how it");
-    say(b"ended. Else the first difference is said. A sheet with a fault is answered by one line:");
-    say(b"refused, the number of the refusal, and the number of the order at fault, or 0.");
-    say(b"");
-    say(b"docs/READING.md explains the words, docs/RULES.md the rules and the refusals.");
+// Where the help cannot be written, there is nobody to be told.
+fn help(rt: &impl Print) {
+    let _ = rt.print(HELP);
+}
+
+// Whether the program was started with this argument, where 0 is its own name.
+fn is_given(env: &impl Env, argument: usize) -> bool {
+    !matches!(env.arg(argument, &mut []), Err(FillError::NotPresent))
+}
+
+fn main(rt: HostRuntime) -> io::Result<()> {
+    if !is_given(&rt, 2) | is_given(&rt, 3) {
+        help(&rt);
+        return Ok(());
+    }
+    archive(&rt)
 }

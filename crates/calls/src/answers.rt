@@ -7,6 +7,8 @@ use crate::view::print_view;
 use rules::{
     BandAnswer, Checked, Clock, CurvesAnswer, Phase, PriceAnswer, Refusal, Tariff, WaitingAnswer,
 };
+use std::io;
+use std::io::Write;
 
 // A call on a list of words. All but the last are on a sheet, that of a view with a stored result behind it.
 #[derive(Clone, Copy)]
@@ -21,97 +23,62 @@ enum ListCall {
     Waiting,
 }
 
-pub(crate) fn print_refusal(refusal: Refusal) {
-    io::write_all(1, b"refused ");
-    io::print_decimal(1, refusal.number() as u64);
-    io::write_all(1, b" ");
-    io::print_decimal(1, refusal.place() as u64);
-    io::write_all(1, b"\n");
+pub(crate) fn print_refusal(out: &mut impl Write, refusal: Refusal) -> io::Result<()> {
+    writeln!(out, "refused {} {}", refusal.number(), refusal.place())
 }
 
-pub(crate) fn unreadable() {
-    io::write_all(1, b"unreadable\n");
+pub(crate) fn unreadable(out: &mut impl Write) -> io::Result<()> {
+    writeln!(out, "unreadable")
 }
 
-fn print_check(checked: Checked) {
+fn print_check(out: &mut impl Write, checked: Checked) -> io::Result<()> {
     match checked {
-        Checked::Accepted => {
-            io::write_all(1, b"accepted\n");
-        }
-        Checked::Refused(refusal) => print_refusal(refusal),
+        Checked::Accepted => writeln!(out, "accepted"),
+        Checked::Refused(refusal) => print_refusal(out, refusal),
     }
 }
 
-fn print_price(answer: PriceAnswer) {
+fn print_price(out: &mut impl Write, answer: PriceAnswer) -> io::Result<()> {
     match answer {
-        PriceAnswer::At(price) => {
-            io::print_decimal(1, price.0 as u64);
-            io::write_all(1, b"\n");
-        }
-        PriceAnswer::Refused(refusal) => print_refusal(refusal),
+        PriceAnswer::At(price) => writeln!(out, "{}", price.0),
+        PriceAnswer::Refused(refusal) => print_refusal(out, refusal),
     }
 }
 
-fn print_curves(answer: CurvesAnswer) {
+fn print_curves(out: &mut impl Write, answer: CurvesAnswer) -> io::Result<()> {
     match answer {
         CurvesAnswer::At {
             demand,
             supply,
             volume,
-        } => {
-            io::print_decimal(1, demand.0);
-            io::write_all(1, b" ");
-            io::print_decimal(1, supply.0);
-            io::write_all(1, b" ");
-            io::print_decimal(1, volume.0);
-            io::write_all(1, b"\n");
-        }
-        CurvesAnswer::Refused(refusal) => print_refusal(refusal),
+        } => writeln!(out, "{} {} {}", demand.0, supply.0, volume.0),
+        CurvesAnswer::Refused(refusal) => print_refusal(out, refusal),
     }
 }
 
-fn print_band(answer: BandAnswer) {
+fn print_band(out: &mut impl Write, answer: BandAnswer) -> io::Result<()> {
     match answer {
-        BandAnswer::Bounds { lower, upper } => {
-            io::print_decimal(1, lower.0 as u64);
-            io::write_all(1, b" ");
-            io::print_decimal(1, upper.0 as u64);
-            io::write_all(1, b"\n");
-        }
-        BandAnswer::Refused(refusal) => print_refusal(refusal),
+        BandAnswer::Bounds { lower, upper } => writeln!(out, "{} {}", lower.0, upper.0),
+        BandAnswer::Refused(refusal) => print_refusal(out, refusal),
     }
 }
 
-fn print_phase(phase: Phase) {
+fn print_phase(out: &mut impl Write, phase: Phase) -> io::Result<()> {
     match phase {
-        Phase::Idle => {
-            io::write_all(1, b"0 0 0 ");
-        }
-        Phase::Waiting { start, side } => {
-            io::write_all(1, b"1 ");
-            io::print_decimal(1, start as u64);
-            io::write_all(1, b" ");
-            io::print_decimal(1, side as u64);
-            io::write_all(1, b" ");
-        }
+        Phase::Idle => write!(out, "0 0 0 "),
+        Phase::Waiting { start, side } => write!(out, "1 {start} {side} "),
     }
 }
 
-fn print_clock(clock: Clock) {
-    let phase = clock.phase;
-    print_phase(phase);
-    io::print_decimal(1, clock.lower.0 as u64);
-    io::write_all(1, b" ");
-    io::print_decimal(1, clock.upper.0 as u64);
-    io::write_all(1, b" ");
-    io::print_decimal(1, clock.due as u64);
-    io::write_all(1, b"\n");
+fn print_clock(out: &mut impl Write, clock: Clock) -> io::Result<()> {
+    print_phase(out, clock.phase)?;
+    writeln!(out, "{} {} {}", clock.lower.0, clock.upper.0, clock.due)
 }
 
-fn print_waiting(answer: WaitingAnswer) {
+fn print_waiting(out: &mut impl Write, answer: WaitingAnswer) -> io::Result<()> {
     match answer {
-        WaitingAnswer::Stands(clock) => print_clock(clock),
-        WaitingAnswer::Refused(refusal) => print_refusal(refusal),
+        WaitingAnswer::Stands(clock) => print_clock(out, clock),
+        WaitingAnswer::Refused(refusal) => print_refusal(out, refusal),
     }
 }
 
@@ -141,146 +108,143 @@ fn numbers_before(call: ListCall) -> usize
     }
 }
 
-fn call_fees(numbers: [u64; 5], words: &[u32]) {
+fn call_fees(out: &mut impl Write, numbers: [u64; 5], words: &[u32]) -> io::Result<()> {
     let tariff = Tariff {
         rate: argument(numbers[0]),
         least: argument(numbers[1]),
         greatest: argument(numbers[2]),
     };
-    print_charged(tariff, numbers[3], numbers[4], words);
+    print_charged(out, tariff, numbers[3], numbers[4], words)
 }
 
-fn call_list(call: ListCall, numbers: [u64; 5], words: &[u32]) {
+fn call_list(
+    out: &mut impl Write,
+    call: ListCall,
+    numbers: [u64; 5],
+    words: &[u32],
+) -> io::Result<()> {
     match call {
-        ListCall::Check => print_check(sheet::check(words)),
-        ListCall::Stepper => print_price(auction::stepper_limit(words, numbers[0] as usize)),
-        ListCall::Curves => print_curves(auction::curves_at(words, argument(numbers[0]))),
-        ListCall::Round => print_written(Writes::FirstRound, numbers[0], words),
-        ListCall::Opening => print_written(Writes::Opening, numbers[0], words),
-        ListCall::Fees => call_fees(numbers, words),
-        ListCall::View => print_view(numbers[0], numbers[1], words),
-        ListCall::Waiting => print_waiting(waiting::waiting_clock(
-            argument(numbers[0]),
-            argument(numbers[1]),
-            words,
-        )),
+        ListCall::Check => print_check(out, sheet::check(words)),
+        ListCall::Stepper => print_price(out, auction::stepper_limit(words, numbers[0] as usize)),
+        ListCall::Curves => print_curves(out, auction::curves_at(words, argument(numbers[0]))),
+        ListCall::Round => print_written(out, Writes::FirstRound, numbers[0], words),
+        ListCall::Opening => print_written(out, Writes::Opening, numbers[0], words),
+        ListCall::Fees => call_fees(out, numbers, words),
+        ListCall::View => print_view(out, numbers[0], numbers[1], words),
+        ListCall::Waiting => print_waiting(
+            out,
+            waiting::waiting_clock(argument(numbers[0]), argument(numbers[1]), words),
+        ),
     }
 }
 
 // The words of a list, from fields of at most 32 bits.
-fn answer_words(call: ListCall, numbers: [u64; 5], fields: &[u64; 16384], count: usize) {
+fn answer_words(
+    out: &mut impl Write,
+    call: ListCall,
+    numbers: [u64; 5],
+    fields: &[u64; 16384],
+    count: usize,
+) -> io::Result<()> {
     if 16384 < count {
-        return;
+        return Ok(());
     }
     let mut words = [0u32; 16384];
-    let mut i = 0;
-    while i < count {
+    for i in 0..count {
         words[i] = argument(fields[i]);
-        i += 1;
     }
-    call_list(call, numbers, &words[..count]);
+    call_list(out, call, numbers, &words[..count])
 }
 
 // The words behind the numbers.
-fn answer_behind(call: ListCall, numbers: [u64; 5], text: &[u8]) {
+fn answer_behind(
+    out: &mut impl Write,
+    call: ListCall,
+    numbers: [u64; 5],
+    text: &[u8],
+) -> io::Result<()> {
     let mut fields = [0u64; 16384];
     match read_fields(text, true, &mut fields) {
-        Fields::Count(count) => answer_words(call, numbers, &fields, count),
-        Fields::Unreadable => unreadable(),
+        Fields::Count(count) => answer_words(out, call, numbers, &fields, count),
+        Fields::Unreadable => unreadable(out),
     }
 }
 
-fn answer_list(call: ListCall, text: &[u8]) {
+fn answer_list(out: &mut impl Write, call: ListCall, text: &[u8]) -> io::Result<()> {
     let mut numbers = [0u64; 5];
     let lead = read_numbers(text, numbers_before(call), &mut numbers);
     let end = lead.end;
     if lead.readable {
-        answer_behind(call, numbers, &text[end..]);
+        answer_behind(out, call, numbers, &text[end..])
     } else {
-        unreadable();
+        unreadable(out)
     }
 }
 
 // The calls about bands, told apart by the number of their fields where the name is known.
-fn call_band(name: &[u8], fields: &[u64; 16384], count: usize) {
-    if check::same(name, b"indicative") & (count == 5) {
-        print_price(band::indicative_price(
-            argument(fields[0]),
-            argument(fields[1]),
-            fields[2],
-            argument(fields[3]),
-            argument(fields[4]),
-        ));
-        return;
+fn call_band(
+    out: &mut impl Write,
+    name: &[u8],
+    fields: &[u64; 16384],
+    count: usize,
+) -> io::Result<()> {
+    match (name, count) {
+        (b"indicative", 5) => print_price(
+            out,
+            band::indicative_price(
+                argument(fields[0]),
+                argument(fields[1]),
+                fields[2],
+                argument(fields[3]),
+                argument(fields[4]),
+            ),
+        ),
+        (b"next", 2) => print_band(
+            out,
+            band::next_band(argument(fields[0]), argument(fields[1])),
+        ),
+        (b"widen", 3) => print_band(
+            out,
+            band::widened_band(
+                argument(fields[0]),
+                argument(fields[1]),
+                argument(fields[2]),
+            ),
+        ),
+        _ => unreadable(out),
     }
-    if check::same(name, b"next") & (count == 2) {
-        print_band(band::next_band(argument(fields[0]), argument(fields[1])));
-        return;
-    }
-    if check::same(name, b"widen") & (count == 3) {
-        print_band(band::widened_band(
-            argument(fields[0]),
-            argument(fields[1]),
-            argument(fields[2]),
-        ));
-        return;
-    }
-    unreadable();
 }
 
-fn answer_band(name: &[u8], text: &[u8]) {
+fn answer_band(out: &mut impl Write, name: &[u8], text: &[u8]) -> io::Result<()> {
     let mut fields = [0u64; 16384];
     match read_fields(text, false, &mut fields) {
-        Fields::Count(count) => call_band(name, &fields, count),
-        Fields::Unreadable => unreadable(),
+        Fields::Count(count) => call_band(out, name, &fields, count),
+        Fields::Unreadable => unreadable(out),
     }
 }
 
-fn answer_call(name: &[u8], text: &[u8]) {
-    if check::same(name, b"check") {
-        answer_list(ListCall::Check, text);
-        return;
+fn answer_call(out: &mut impl Write, name: &[u8], text: &[u8]) -> io::Result<()> {
+    match name {
+        b"check" => answer_list(out, ListCall::Check, text),
+        b"stepper" => answer_list(out, ListCall::Stepper, text),
+        b"curves" => answer_list(out, ListCall::Curves, text),
+        b"round" => answer_list(out, ListCall::Round, text),
+        b"opening" => answer_list(out, ListCall::Opening, text),
+        b"fees" => answer_list(out, ListCall::Fees, text),
+        b"view" => answer_list(out, ListCall::View, text),
+        b"waiting" => answer_list(out, ListCall::Waiting, text),
+        _ => answer_band(out, name, text),
     }
-    if check::same(name, b"stepper") {
-        answer_list(ListCall::Stepper, text);
-        return;
-    }
-    if check::same(name, b"curves") {
-        answer_list(ListCall::Curves, text);
-        return;
-    }
-    if check::same(name, b"round") {
-        answer_list(ListCall::Round, text);
-        return;
-    }
-    if check::same(name, b"opening") {
-        answer_list(ListCall::Opening, text);
-        return;
-    }
-    if check::same(name, b"fees") {
-        answer_list(ListCall::Fees, text);
-        return;
-    }
-    if check::same(name, b"view") {
-        answer_list(ListCall::View, text);
-        return;
-    }
-    if check::same(name, b"waiting") {
-        answer_list(ListCall::Waiting, text);
-        return;
-    }
-    answer_band(name, text);
 }
 
-pub(crate) fn answer(line: &[u8]) {
+pub(crate) fn answer(out: &mut impl Write, line: &[u8]) -> io::Result<()> {
     if line.len() == 0 {
-        return;
+        return Ok(());
     }
     if line[0] == b'#' {
-        io::write_all(1, line);
-        io::write_all(1, b"\n");
-        return;
+        out.write_all(line)?;
+        return out.write_all(b"\n");
     }
     let end = field_end(line, 0);
-    answer_call(&line[..end], &line[end..]);
+    answer_call(out, &line[..end], &line[end..])
 }

@@ -66,17 +66,11 @@ pub(crate) fn spelled(text: &[u8], hex: bool) -> Number {
         return Number::Unreadable;
     }
     let mut value: u64 = 0;
-    let mut i = 0;
-    while i < text.len() {
-        match with_digit(value, digit(text[i]), hex) {
-            Number::Is(more) => {
-                value = more;
-            }
-            Number::Unreadable => {
-                return Number::Unreadable;
-            }
+    for byte in text {
+        match with_digit(value, digit(*byte), hex) {
+            Number::Is(more) => value = more,
+            Number::Unreadable => return Number::Unreadable,
         }
-        i += 1;
     }
     Number::Is(value)
 }
@@ -86,14 +80,12 @@ pub(crate) fn field_end(text: &[u8], from: usize) -> usize
     requires { from ≤ length text.now }
     ensures { (from ≤ result) × (result ≤ length text.now) }
 {
-    let mut at = from;
-    while at < text.len() {
+    for at in from..text.len() {
         if text[at] == b' ' {
             return at;
         }
-        at += 1;
     }
-    at
+    text.len()
 }
 
 // A decimal number that stands first in a text, after a space, and the place behind it.
@@ -130,8 +122,7 @@ pub(crate) fn read_numbers(text: &[u8], count: usize, numbers: &mut [u64; 5]) ->
     ensures { result.end ≤ length text.now }
 {
     let mut end: usize = 0;
-    let mut i: usize = 0;
-    while i < count {
+    for i in 0..count {
         let first = first_number(&text[end..]);
         let number = first.number;
         match number {
@@ -146,7 +137,6 @@ pub(crate) fn read_numbers(text: &[u8], count: usize, numbers: &mut [u64; 5]) ->
             }
         }
         end += first.end;
-        i += 1;
     }
     Lead {
         readable: true,

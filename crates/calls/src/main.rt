@@ -9,6 +9,10 @@ mod space;
 mod view;
 
 use answers::answer;
+use std::env::FillError;
+use std::io;
+use std::io::{BufWriter, ErrorKind, Read, Write};
+use std::rt::Env;
 
 // A line that is being read: its length so far, and whether it is too long to be kept.
 #[derive(Clone, Copy)]
@@ -17,92 +21,97 @@ struct Line {
     lost: bool,
 }
 
-// Adds a byte to the line, or answers the line where it ends.
-fn take(line: Line, byte: u8, text: &mut [u8]) -> Line {
+// Adds a byte to the line, or answers the line where it ends. The answer goes out at once, since who asks may wait
+// for it before the next line.
+fn take(out: &mut impl Write, line: Line, byte: u8, text: &mut [u8]) -> io::Result<Line> {
     let len = line.len;
     if byte == b'\n' {
         if len <= text.len() {
             if line.lost {
-                answers::unreadable();
+                answers::unreadable(out)?;
             } else {
-                answer(&text[..len]);
+                answer(out, &text[..len])?;
             }
+            out.flush()?;
         }
-        return Line {
+        return Ok(Line {
             len: 0,
             lost: false,
-        };
+        });
     }
     if len < text.len() {
         text[len] = byte;
-        return Line {
+        return Ok(Line {
             len: len + 1,
             lost: line.lost,
-        };
+        });
     }
-    Line { len, lost: true }
+    Ok(Line { len, lost: true })
 }
 
-fn take_all(line: Line, bytes: &[u8], text: &mut [u8]) -> Line {
+fn take_all(out: &mut impl Write, line: Line, bytes: &[u8], text: &mut [u8]) -> io::Result<Line> {
     let mut line = line;
-    let mut i = 0;
-    while i < bytes.len() {
-        line = take(line, bytes[i], text);
-        i += 1;
+    for byte in bytes {
+        line = take(out, line, *byte, text)?;
     }
-    line
+    Ok(line)
 }
 
-// Whether to go on, and the line that is being read.
-#[derive(Clone, Copy)]
-struct Read {
-    more: bool,
+// Reads once and answers the lines that end there, and hands back the line that is being read then; none where the
+// input has ended. A read that fails ends it too, but one that a signal cut short is tried again.
+fn read_some(
+    input: &mut impl Read,
+    out: &mut impl Write,
     line: Line,
-}
-
-fn read_some(line: Line, text: &mut [u8]) -> Read {
-    let mut buffer = io::buffer();
-    let got = libc::read(0, &mut buffer);
-    if got <= 0 {
-        return Read { more: false, line };
+    text: &mut [u8],
+) -> io::Result<Option<Line>> {
+    let mut buffer = [0u8; 4096];
+    match input.read(&mut buffer) {
+        Ok(0) => Ok(None),
+        Ok(count) => Ok(Some(take_all(out, line, &buffer[..count], text)?)),
+        Err(error) if error.kind() == ErrorKind::Interrupted => Ok(Some(line)),
+        Err(_) => Ok(None),
     }
-    let n = io::count(got, &buffer);
-    let line = take_all(line, &buffer[..n], text);
-    Read { more: true, line }
 }
 
 // Reads to the end of the input, and hands back the last line where its end is missing. A proved loop
-// has to end, so it counts its turns down from a number that no run uses up.
-fn read_all(text: &mut [u8]) -> Line {
+// has to end, so it counts its turns up to a number that no run uses up.
+fn read_all(input: &mut impl Read, out: &mut impl Write, text: &mut [u8]) -> io::Result<Line> {
     let mut line = Line {
         len: 0,
         lost: false,
     };
-    let mut turns = u64::MAX;
-    while 0 < turns {
-        let read = read_some(line, text);
-        line = read.line;
-        if !read.more {
-            return line;
+    for _ in 0..u64::MAX {
+        match read_some(input, out, line, text)? {
+            Some(read) => line = read,
+            None => break,
         }
-        turns -= 1;
     }
-    line
+    Ok(line)
 }
 
-fn answer_all() {
-    // The bytes of the longest line: MOST words of nine bytes, with a call's name and numbers before them.
-    let mut text = [0u8; 150000];
-    let line = read_all(&mut text);
+fn answer_all(input: &mut impl Read, out: &mut impl Write, text: &mut [u8]) -> io::Result<()> {
+    let line = read_all(input, out, text)?;
     if 0 < line.len {
-        take(line, b'\n', &mut text);
+        take(out, line, b'\n', text)?;
     }
+    Ok(())
 }
 
-fn main() {
-    if 1 < os::arg_count() {
-        help::help();
-    } else {
-        answer_all();
+// Whether the program was started with an argument behind its name.
+fn has_argument(env: &impl Env) -> bool {
+    !matches!(env.arg(1, &mut []), Err(FillError::NotPresent))
+}
+
+fn main(rt: HostRuntime) -> io::Result<()> {
+    if has_argument(&rt) {
+        help::help(&rt);
+        return Ok(());
     }
+    // The bytes of the longest line: MOST words of nine bytes, with a call's name and numbers before them.
+    let mut text = vec![in rt.alloc(); 0u8; 150000]?;
+    let mut out = BufWriter::new(rt.alloc(), io::writer(&rt))?;
+    // Where an answer cannot be written, there is nobody to be told, and no later line is answered.
+    let _ = answer_all(&mut rt.reader(), &mut out, &mut text);
+    Ok(())
 }

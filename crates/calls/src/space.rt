@@ -4,6 +4,8 @@ ghost use Rattle.std.specs.Prelude.{◌≡◌, ◌≤◌, length};
 
 use crate::answers::print_refusal;
 use rules::{SpaceAnswer, Tariff};
+use std::io;
+use std::io::Write;
 
 // The words that the program has to lend. An opening of 120 orders needs 15,005.
 const WORDS: usize = 16384;
@@ -25,19 +27,18 @@ fn lent(asked: u64, most: usize) -> usize
     }
 }
 
-fn print_word(word: u32, first: bool) {
+fn print_word(out: &mut impl Write, word: u32, first: bool) -> io::Result<()> {
     if !first {
-        io::write_all(1, b" ");
+        write!(out, " ")?;
     }
-    io::print_hex(1, word as u64, 8);
+    write!(out, "{word:08x}")
 }
 
-fn print_words(words: &[u32]) {
-    let mut i = 0;
-    while i < words.len() {
-        print_word(words[i], i == 0);
-        i += 1;
+fn print_words(out: &mut impl Write, words: &[u32]) -> io::Result<()> {
+    for (i, word) in words.iter().enumerate() {
+        print_word(out, *word, i == 0)?;
     }
+    Ok(())
 }
 
 // What a call writes.
@@ -55,24 +56,34 @@ fn written(call: Writes, words: &[u32], space: &mut [u32]) -> SpaceAnswer {
 }
 
 // The call on a space that is lent.
-fn write_in(call: Writes, words: &[u32], space: &mut [u32]) {
-    let answer = written(call, words, space);
-    match answer {
+fn write_in(
+    out: &mut impl Write,
+    call: Writes,
+    words: &[u32],
+    space: &mut [u32],
+) -> io::Result<()> {
+    match written(call, words, space) {
         SpaceAnswer::Written(count) => {
             if count <= space.len() {
-                print_words(&space[..count]);
-                io::write_all(1, b"\n");
+                print_words(out, &space[..count])?;
+                writeln!(out)?;
             }
+            Ok(())
         }
-        SpaceAnswer::Refused(refusal) => print_refusal(refusal),
+        SpaceAnswer::Refused(refusal) => print_refusal(out, refusal),
     }
 }
 
 // The call with a space of so many words.
-pub(crate) fn print_written(call: Writes, size: u64, words: &[u32]) {
+pub(crate) fn print_written(
+    out: &mut impl Write,
+    call: Writes,
+    size: u64,
+    words: &[u32],
+) -> io::Result<()> {
     let mut space = all_words();
     let size = lent(size, WORDS);
-    write_in(call, words, &mut space[..size]);
+    write_in(out, call, words, &mut space[..size])
 }
 
 // The places for fees that the program has to lend. 120 orders need as many.
@@ -84,39 +95,48 @@ fn all_places() -> [u64; 128]
     [0; 128]
 }
 
-fn print_fees(fees: &[u64]) {
-    io::write_all(1, b" fees");
-    let mut i = 0;
-    while i < fees.len() {
-        io::write_all(1, b" ");
-        io::print_decimal(1, fees[i]);
-        i += 1;
+fn print_fees(out: &mut impl Write, fees: &[u64]) -> io::Result<()> {
+    write!(out, " fees")?;
+    for fee in fees {
+        write!(out, " {fee}")?;
     }
-    io::write_all(1, b"\n");
+    writeln!(out)
 }
 
 // The opening with fees, on a space and a list that are lent.
-fn charge_in(tariff: Tariff, words: &[u32], space: &mut [u32], fees: &mut [u64]) {
-    let answer = auction::opening_fees(words, tariff, space, fees);
-    match answer {
+fn charge_in(
+    out: &mut impl Write,
+    tariff: Tariff,
+    words: &[u32],
+    space: &mut [u32],
+    fees: &mut [u64],
+) -> io::Result<()> {
+    match auction::opening_fees(words, tariff, space, fees) {
         SpaceAnswer::Written(count) => {
             if count <= space.len() {
-                print_words(&space[..count]);
+                print_words(out, &space[..count])?;
             }
             let orders = sheet::order_count(words);
             if orders <= fees.len() {
-                print_fees(&fees[..orders]);
+                print_fees(out, &fees[..orders])?;
             }
+            Ok(())
         }
-        SpaceAnswer::Refused(refusal) => print_refusal(refusal),
+        SpaceAnswer::Refused(refusal) => print_refusal(out, refusal),
     }
 }
 
 // The opening with fees, with a space of so many words and a list of so many places.
-pub(crate) fn print_charged(tariff: Tariff, size: u64, places: u64, words: &[u32]) {
+pub(crate) fn print_charged(
+    out: &mut impl Write,
+    tariff: Tariff,
+    size: u64,
+    places: u64,
+    words: &[u32],
+) -> io::Result<()> {
     let mut space = all_words();
     let mut fees = all_places();
     let size = lent(size, WORDS);
     let places = lent(places, PLACES);
-    charge_in(tariff, words, &mut space[..size], &mut fees[..places]);
+    charge_in(out, tariff, words, &mut space[..size], &mut fees[..places])
 }

@@ -4,9 +4,11 @@ ghost use Rattle.calls.specs.Viewed.{ViewedFills};
 
 use crate::answers::{print_refusal, unreadable};
 use rules::{RoundAnswer, Summary};
+use std::io;
+use std::io::Write;
 use words::word_of;
 
-// The fill words of the page that a view gives for a round. It alone holds a view here, so its proof is by hand.
+// The fill words of the page that a view gives for a round. It alone holds a view here.
 fn page_fills<'s, 'a>(sheet: &'s [u32], stored: &'a [u32], r: usize) -> &'a [u32]
     ensures { ViewedFills sheet.now stored.entry r result }
 {
@@ -15,55 +17,56 @@ fn page_fills<'s, 'a>(sheet: &'s [u32], stored: &'a [u32], r: usize) -> &'a [u32
     page.fills
 }
 
-fn print_summary(summary: Summary) {
-    io::print_decimal(1, summary.situation as u64);
-    io::write_all(1, b" ");
-    io::print_decimal(1, summary.price.0 as u64);
-    io::write_all(1, b" ");
-    io::print_decimal(1, summary.purchase.0 as u64);
-    io::write_all(1, b" ");
-    io::print_decimal(1, summary.total.0 as u64);
+fn print_summary(out: &mut impl Write, summary: Summary) -> io::Result<()> {
+    write!(
+        out,
+        "{} {} {} {}",
+        summary.situation, summary.price.0, summary.purchase.0, summary.total.0
+    )
 }
 
-fn print_fill(word: u32) {
-    io::write_all(1, b" ");
-    io::print_decimal(1, word_of(word).value as u64);
+fn print_fill(out: &mut impl Write, word: u32) -> io::Result<()> {
+    write!(out, " {}", word_of(word).value)
 }
 
-fn print_fills(fills: &[u32]) {
-    let mut i = 0;
-    while i < fills.len() {
-        print_fill(fills[i]);
-        i += 1;
+fn print_fills(out: &mut impl Write, fills: &[u32]) -> io::Result<()> {
+    for word in fills {
+        print_fill(out, *word)?;
     }
+    Ok(())
 }
 
-fn print_round(round: usize, sheet: &[u32], stored: &[u32]) {
+fn print_round(
+    out: &mut impl Write,
+    round: usize,
+    sheet: &[u32],
+    stored: &[u32],
+) -> io::Result<()> {
     match stored::read_round(sheet, stored, round) {
         RoundAnswer::Reads {
             summary,
             fills: _,
             count: _,
         } => {
-            print_summary(summary);
-            print_fills(page_fills(sheet, stored, round));
-            io::write_all(1, b"\n");
+            print_summary(out, summary)?;
+            print_fills(out, page_fills(sheet, stored, round))?;
+            writeln!(out)
         }
-        RoundAnswer::Different(place) => {
-            io::write_all(1, b"different ");
-            io::print_decimal(1, place as u64);
-            io::write_all(1, b"\n");
-        }
-        RoundAnswer::Refused(refusal) => print_refusal(refusal),
+        RoundAnswer::Different(place) => writeln!(out, "different {place}"),
+        RoundAnswer::Refused(refusal) => print_refusal(out, refusal),
     }
 }
 
 // The first words, so many as counted, are the sheet, all others the stored result.
-pub(crate) fn print_view(round: u64, count: u64, words: &[u32]) {
+pub(crate) fn print_view(
+    out: &mut impl Write,
+    round: u64,
+    count: u64,
+    words: &[u32],
+) -> io::Result<()> {
     if (words.len() as u64) < count {
-        unreadable();
-        return;
+        return unreadable(out);
     }
     let count = count as usize;
-    print_round(round as usize, &words[..count], &words[count..]);
+    print_round(out, round as usize, &words[..count], &words[count..])
 }

@@ -3,45 +3,70 @@
 // nothing and says what it does.
 #![tactic(auto)]
 
-fn main() {
-    if 1 < os::arg_count() {
-        help();
-    } else {
-        print_opening();
-    }
+ghost use Rattle.std.specs.Prelude.{◌≤◌, length};
+
+use std::env::FillError;
+use std::io;
+use std::io::{ErrorKind, Read};
+use std::rt::Env;
+
+const HELP: &str = "\
+opening < SHEET
+
+Reads a round sheet from standard input, as 32-bit words with the high byte first,
+and prints the words of its opening's result, each as 8 hexadecimal digits on a line
+of its own. A sheet with a fault is answered by one line: refused, the number of the
+refusal, and the number of the order at fault, or 0.
+
+docs/READING.md explains the words, docs/RULES.md the rules and the refusals.
+";
+
+// Whether the program was started with an argument behind its name.
+fn has_argument(env: &impl Env) -> bool {
+    !matches!(env.arg(1, &mut []), Err(FillError::NotPresent))
 }
 
-fn print_opening() {
+// Reads until the bytes are full, the input ends or a read fails, and answers how many were read. A read that a
+// signal cut short is tried again.
+fn read_full(input: &mut impl Read, bytes: &mut [u8]) -> usize
+    ensures { result ≤ length bytes.new }
+{
+    let mut count = 0;
+    for _ in 0..u64::MAX {
+        match input.read(&mut bytes[count..]) {
+            Ok(0) => break,
+            Ok(more) => count += more,
+            Err(error) if error.kind() == ErrorKind::Interrupted => {}
+            Err(_) => break,
+        }
+    }
+    count
+}
+
+fn print_opening(rt: &(impl Input + Print + Eprint + Alloc)) -> io::Result<()> {
     // One byte more than a sheet may have, so that input that is too long shows.
     let mut input = [0u8; text::MOST_BYTES + 1];
-    let read = io::read_full(0, &mut input);
-    let mut out = [0u8; 135045];
-    let count = text::opening_text(&input[..read], &mut out);
-    if !io::write_all(1, &out[..count]) {
-        io::write_all(2, b"opening: not all of the result was written\n");
+    let read = read_full(&mut rt.reader(), &mut input);
+    let mut out = vec![in rt.alloc(); 0u8; 135045]?;
+    let Some(out) = out.as_mut_array() else {
+        unreachable!()
+    };
+    let count = text::opening_text(&input[..read], out);
+    if rt.write_all(&out[..count]).is_err() {
+        let _ = rt.eprintln("opening: not all of the result was written");
     }
+    Ok(())
 }
 
-fn help() {
-    io::write_all(1, b"opening < SHEET\n\n");
-    io::write_all(
-        1,
-        b"Reads a round sheet from standard input, as 32-bit words with the high byte first,\n",
-    );
-    io::write_all(
-        1,
-        b"and prints the words of its opening's result, each as 8 hexadecimal digits on a line\n",
-    );
-    io::write_all(
-        1,
-        b"of its own. A sheet with a fault is answered by one line: refused, the number of the\n",
-    );
-    io::write_all(
-        1,
-        b"refusal, and the number of the order at fault, or 0.\n\n",
-    );
-    io::write_all(
-        1,
-        b"docs/READING.md explains the words, docs/RULES.md the rules and the refusals.\n",
-    );
+// Where the help cannot be written, there is nobody to be told.
+fn help(rt: &impl Print) {
+    let _ = rt.print(HELP);
+}
+
+fn main(rt: HostRuntime) -> io::Result<()> {
+    if has_argument(&rt) {
+        help(&rt);
+        return Ok(());
+    }
+    print_opening(&rt)
 }
