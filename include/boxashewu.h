@@ -3,8 +3,8 @@
  * The static library is libboxashewu.a, for x86-64 Linux. In the project's folder, with Rattle's command rt, it is built
  * and linked by
  *
- *     rt staticlib boxashewu
- *     cc -Wall -Wextra -Wconversion -Wsign-conversion -Werror -Iinclude program.c target/staticlib/libboxashewu.a
+ *     (cd crates/boxashewu && rt lib)
+ *     cc -Wall -Wextra -Wconversion -Wsign-conversion -Werror -Iinclude program.c crates/boxashewu/out/libboxashewu.a
  *
  * Of every call it is proved that it ends and answers what the rules say, for every list of words and all numbers: the
  * promises are in crates/boxashewu/src/lib.rt, the calls one by one in docs/CALLS.md, the rules in docs/RULES.md, and what

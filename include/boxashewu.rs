@@ -3,8 +3,8 @@
 //! links libboxashewu.a (rustc 1.82 or newer, any edition):
 //!
 //! ```text
-//! rt staticlib boxashewu
-//! rustc -O -L target/staticlib program.rs
+//! (cd crates/boxashewu && rt lib)
+//! rustc -O -L crates/boxashewu/out program.rs
 //! ```
 //!
 //! With cargo a build script prints `cargo:rustc-link-search=native=` and the folder.
