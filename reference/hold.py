@@ -31,14 +31,11 @@ def reference(*words, text=None):
 
 
 def imports_and_names():
-    """What the proof of the table brings in, as another crate names it, and the definitions that it unfolds."""
+    """What the proof of the table brings in of the rules, and the definitions that it unfolds."""
     with open(os.path.join(PROJECT, "crates", "rules", "proofs", "Cases.antt")) as file:
         proof = file.read()
-    own = {"Rattle·rules·specs.specs.": "Rattle·rules.specs.", "Rattle·rules·proofs.proofs.": "Rattle·rules.proofs."}
-    lines = [line for line in proof.splitlines() if line.startswith("use Rattle·") and ".Cases." not in line]
-    for ours, theirs in own.items():
-        lines = [line.replace(ours, theirs) for line in lines]
-    names = re.search(r"^unfolding allSame same sameNumbers documentCases furtherCases waitingCases feeCases stepCases (.*)$", proof, re.M)
+    lines = [line for line in proof.splitlines() if line.startswith("use Rattle.rules.") and ".Cases." not in line]
+    names = re.search(r"^unfolding all_same same same_numbers document_cases further_cases waiting_cases fee_cases step_cases (.*)$", proof, re.M)
     charged = re.search(r"^unfolding charges (.*)$", proof, re.M)
     return lines, names.group(1), charged.group(1)
 
@@ -53,7 +50,7 @@ def numbers(texts):
 
 
 # The calls that take a number and a sheet, by their names in the rules. The protocol puts the number first, the rules last.
-ON_A_SHEET = {"stepper": "stepperLimit", "curves": "curvesAt", "round": "firstRound", "opening": "opening"}
+ON_A_SHEET = {"stepper": "stepper_limit", "curves": "curves_at", "round": "first_round", "opening": "opening"}
 ANSWERED_IN_WORDS = ("round", "opening", "fees")
 
 
@@ -64,7 +61,7 @@ def call(line):
     if name in ON_A_SHEET:
         return f"{ON_A_SHEET[name]} ({words(parts[1:])}) {parts[0]}"
     if name == "fees":
-        return f"openingFees ({words(parts[5:])}) (tariffOf {' '.join(parts[:3])}) {parts[3]} {parts[4]}"
+        return f"opening_fees ({words(parts[5:])}) (tariff_of {' '.join(parts[:3])}) {parts[3]} {parts[4]}"
     if name == "waiting":
         return f"waiting {parts[0]} {parts[1]} ({words(parts[2:])})"
     return " ".join([name, *parts])
@@ -88,14 +85,14 @@ def stored_rows(line, answer):
     whole = part = f"differs {said[1]}" if said[0] == "different" else f"answers (refuses {' '.join(said[1:])})"
     if said[0].isdigit() or said[:2] == ["refused", "9"]:
         whole = "answers (gives [])"
-    rows = [f"storedCase (storedRound {lists} {round_number}) ({part})"]
+    rows = [f"stored_case (stored_round {lists} {round_number}) ({part})"]
     if said[0].isdigit():
         orders = len(said) - 4
         place = int(round_number) * (orders + 4) + 4
-        rows = [f"storedCase (storedRound {lists} {round_number}) (answers (gives ({numbers([*said[:4], place, orders])})))",
-                f"roundSaid {lists} {round_number} ≡ record {{ situation = {said[0]}; price = {said[1]}; purchase = {said[2]}; "
+        rows = [f"stored_case (stored_round {lists} {round_number}) (answers (gives ({numbers([*said[:4], place, orders])})))",
+                f"round_said {lists} {round_number} ≡ record {{ situation = {said[0]}; price = {said[1]}; purchase = {said[2]}; "
                 f"total = {said[3]}; fills = {numbers(said[4:])} }}"]
-    return [f"storedCase (openStored {lists}) ({whole})", *rows]
+    return [f"stored_case (open_stored {lists}) ({whole})", *rows]
 
 
 def rows_of(line, answer):
@@ -105,7 +102,7 @@ def rows_of(line, answer):
     rows = [f"case ({call(line)}) ({document(line, answer)})"]
     if " fees" in answer:
         parts, (given, fees) = line.split()[1:], answer.split(" fees")
-        rows.append(f"charge (tariffOf {' '.join(parts[:3])}) ({words(parts[5:])}) ({words(given.split())}) ({numbers(fees.split())})")
+        rows.append(f"charge (tariff_of {' '.join(parts[:3])}) ({words(parts[5:])}) ({words(given.split())}) ({numbers(fees.split())})")
     return rows
 
 
@@ -113,21 +110,21 @@ def vectors(rows):
     """A file that states and proves some rows, each by itself."""
     lines, names, charged = imports_and_names()
     text = [
-        "use mathlib.Core.List.{List, [], _∷_}",
-        "use mathlib.Core.Path.{_≡_, refl}",
+        "use mathlib.Core.List.{List, [], ◌∷◌}",
+        "use mathlib.Core.Path.{◌≡◌, refl}",
         *lines,
-        "use Rattle·rules.proofs.Cases.{sameNumbers, same, allSame, all-same, sameStored, allStored, all-stored}",
-        "use Rattle·rules.specs.Cases.{Case, case, AllHold, Charge, charge, AllCharge, StoredCase, storedCase, AllOpen}",
-        "use Rattle·rules.specs.Stored.{openStored, storedRound}",
-        "use Rattle·rules.specs.Calls.{check, stepperLimit, curvesAt, firstRound, opening, openingFees, indicative, next, widen, waiting}",
-        "use Rattle·rules.specs.Fees.{tariffOf}",
+        "use Rattle.rules.proofs.Cases.{same_numbers, same, all_same, all_same_lem, same_stored, all_stored, all_stored_lem}",
+        "use Rattle.rules.specs.Cases.{Case, case, AllHold, Charge, charge, AllCharge, StoredCase, stored_case, AllOpen}",
+        "use Rattle.rules.specs.Stored.{open_stored, stored_round}",
+        "use Rattle.rules.specs.Calls.{check, stepper_limit, curves_at, first_round, opening, opening_fees, indicative, next, widen, waiting}",
+        "use Rattle.rules.specs.Fees.{tariff_of}",
     ]
-    kinds = {"case": ("Case", "AllHold", f"allSame same sameNumbers {names}", "all-same row{} refl"),
+    kinds = {"case": ("Case", "AllHold", f"all_same same same_numbers {names}", "all_same_lem row{} refl"),
              "charge": ("Charge", "AllCharge", charged, "(refl, tt)"),
-             "storedCase": ("StoredCase", "AllOpen", f"allStored sameStored same sameNumbers storedBy firstDifference {names}", "all-stored row{} refl")}
+             "stored_case": ("StoredCase", "AllOpen", f"all_stored same_stored same same_numbers stored_by first_difference {names}", "all_stored_lem row{} refl")}
     for number, row in enumerate(rows):
-        if row.startswith("roundSaid"):
-            text += ["", f"pub agree{number} : {row}", "unfolding roundSaid headingFrom headingOf listed", f"agree{number} = refl"]
+        if row.startswith("round_said"):
+            text += ["", f"pub agree{number} : {row}", "unfolding round_said heading_from heading_of listed", f"agree{number} = refl"]
             continue
         kind, statement, unfolded, proof = kinds[row.split()[0]]
         text += [
@@ -145,7 +142,7 @@ def vectors(rows):
 def scratch_crate(folder, rows):
     """The rules, and a crate beside them that holds the rows."""
     shutil.copytree(os.path.join(PROJECT, "crates", "rules"), os.path.join(folder, "crates", "rules"),
-                    ignore=shutil.ignore_patterns("must-fail"))
+                    ignore=shutil.ignore_patterns("must-fail", "out"))
     crate = os.path.join(folder, "crates", "vectors")
     with open(os.path.join(PROJECT, "crates.txt")) as file:
         rules = next(line for line in file if line.startswith("rules:"))
@@ -255,7 +252,7 @@ def main():
     assert len(lines) == len(answers)
     with tempfile.TemporaryDirectory() as folder:
         scratch_crate(folder, [row for line, answer in zip(lines, answers) for row in rows_of(line, answer)])
-        checked = subprocess.run(["rt", "check", "vectors"], cwd=folder, capture_output=True, text=True)
+        checked = subprocess.run(["rt", "check"], cwd=os.path.join(folder, "crates", "vectors"), capture_output=True, text=True)
         said = checked.stdout + checked.stderr
     for what, number in sorted(coverage(lines, answers).items()):
         print(f"{number:6} {what}")
