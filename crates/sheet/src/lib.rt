@@ -22,7 +22,7 @@ pub(crate) const ORDER_WORDS: usize = 3;
 
 // What a sheet says, for the calls that go on from it: the answer of its check, its heading and its
 // orders in 120 places, those from the number of orders on holding none. Of a refused sheet no heading
-// and no order is handed on. (The array stands beside the answer, since an enum holds none.)
+// and no order is handed on. (The array stands beside the answer: an enum could hold none when this was written.)
 #[derive(Clone, Copy)]
 pub struct Reading {
     pub checked: Checked,

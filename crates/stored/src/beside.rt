@@ -20,7 +20,8 @@ fn first_difference(a: &[u32], b: &[u32]) -> Difference
         }
         i += 1;
     }
-    if i < b.len() {
+    let ends_early = i < b.len();
+    if ends_early {
         return Difference::At(i);
     }
     Difference::Nowhere

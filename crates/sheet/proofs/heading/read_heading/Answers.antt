@@ -7,6 +7,7 @@ use Prim.Native.Nat.{ℕ}
 use lib.ListN.{length, take}
 use Rattle.rules.specs.Sheet.{step_word, heading_of, heading_checks}
 use Rattle.rules.proofs.Downwards.{Clear, here, passed, nothing_left, clear_append, stops_after, says_nothing, says_refused}
+use borrow.Author.Rules.{rules}
 use Rattle.rules.proofs.Tests.{tests}
 use Rattle.sheet.specs.Steps.{heading_words_of, step_word_read, wrong_kinds, wrong_prices, wrong_band, wrong_step, wrong_length}
 use Rattle.words.specs.declared.cursor.Step.{Step}
@@ -84,32 +85,32 @@ pub returns-then-prices : goal.returns-then-prices
 unfolding heading_checks
 returns-then-prices c =
     let all = (goal.at.returns-then-prices c).After-wrong_length-length in
-    says_refused _ (stops_after (two_rows all c.if-kinds.false) (here (prices all c.if-prices.true)))
+    says_refused _ (stops_after (two_rows all (search rules)) (here (prices all c.if-prices.true)))
 
 pub returns-then-band : goal.returns-then-band
 unfolding heading_checks
 returns-then-band c =
     let all = (goal.at.returns-then-band c).After-wrong_length-length in
-    says_refused _ (stops_after (three_rows all c.if-kinds.false c.if-prices.false) (here (band all c.if-band.true)))
+    says_refused _ (stops_after (three_rows all (search rules) (search rules)) (here (band all c.if-band.true)))
 
 pub returns-then-step : goal.returns-then-step
 unfolding heading_checks
 returns-then-step c =
     let all = (goal.at.returns-then-step c).After-wrong_length-length in
-    says_refused _ (stops_after (four_rows all c.if-kinds.false c.if-prices.false c.if-band.false) (here (step all c.if-step.true)))
+    says_refused _ (stops_after (four_rows all (search rules) (search rules) (search rules)) (here (step all c.if-step.true)))
 
 pub returns-then-length : goal.returns-then-length
 unfolding heading_checks
 returns-then-length c =
     let all = (goal.at.returns-then-length c).After-wrong_length-length in
     says_refused _
-    (stops_after (five_rows all c.if-kinds.false c.if-prices.false c.if-band.false c.if-step.false) (here (lengths all c.if-length.true)))
+    (stops_after (five_rows all (search rules) (search rules) (search rules) (search rules)) (here (lengths all c.if-length.true)))
 
 pub returns : goal.returns
 unfolding heading_checks
 returns c =
     let all = (goal.at.returns c).After-wrong_length-length in
-    let rows = five_rows all c.if-kinds.false c.if-prices.false c.if-band.false c.if-step.false in (
+    let rows = five_rows all (search rules) (search rules) (search rules) (search rules) in (
       says_nothing _ (clear_append rows (passed (lengths all c.if-length.false) nothing_left)),
       heading all,
       ap (λ (s : Step). s.next.at) (sixth all),

@@ -15,8 +15,8 @@ returns-then-a-i c = sym (differs_here _ _ _ c.loop-i.invariant.2 c.loop-i-test.
 pub loop-i-preserved : goal.loop-i-preserved
 loop-i-preserved c = (omega arith, omega arith, reached_next _ _ _ c.loop-i.invariant.2 c.loop-i-test.true c.if-b-i.false c.if-a-i.false)
 
-pub returns-then-i-b : goal.returns-then-i-b
-returns-then-i-b c = sym (first_ends _ _ _ c.loop-i.invariant.2 c.if-i-b.true c.loop-i-test.false)
+pub returns-then-ends_early : goal.returns-then-ends_early
+returns-then-ends_early c = sym (first_ends _ _ _ c.loop-i.invariant.2 c.if-ends_early.true c.loop-i-test.false)
 
 pub returns : goal.returns
-returns c = sym (both_end _ _ _ c.loop-i.invariant.2 c.loop-i-test.false c.if-i-b.false)
+returns c = sym (both_end _ _ _ c.loop-i.invariant.2 c.loop-i-test.false c.if-ends_early.false)
