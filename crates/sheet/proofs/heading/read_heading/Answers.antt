@@ -19,6 +19,7 @@ pub returns-then-words-lt-HEADING_WORDS : goal.returns-then-words-lt-HEADING_WOR
 unfolding heading_checks
 returns-then-words-lt-HEADING_WORDS c = says_refused _ (here (search tests))
 
+-- what was read before the first test, and the rows of the table by what the tests said
 module _ (c : After-wrong_length-length) where
   abbrev words : List ℕ
   words = c.args.words.now

@@ -7,6 +7,7 @@ use Rattle.sheet.specs.declared.orders.OrderWords.{OrderWords}
 use Rattle.sheet.proofs.orders.check_order.Goals as goal
 use Rattle.sheet.proofs.orders.check_order.Goals.{After-wrong_ignored-ignored}
 
+-- the rows of the table by what the tests said
 module _ (c : After-wrong_ignored-ignored) where
   abbrev order : OrderWords
   order = c.args.three
