@@ -9,7 +9,7 @@ use std::env::FillError;
 use std::fs::File;
 use std::io::{ErrorKind, Read};
 use std::rt::{Env, Files};
-use std::{io, str};
+use std::str;
 
 const HELP: &str = "\
 archive SHEET RESULT
@@ -74,33 +74,29 @@ fn take(rt: &(impl Env + Files), argument: usize, bytes: &mut [u8]) -> Taken
     read_full(&mut file, bytes)
 }
 
-fn print_archived(rt: &(impl Print + Eprint + Alloc), sheet: &[u8], res: &[u8]) -> io::Result<()> {
-    let mut out = vec![in rt.alloc(); 0u8; 930000]?;
-    let Some(out) = out.as_mut_array() else {
-        unreachable!()
-    };
-    let count = pages::archive_text(sheet, res, out);
+fn print_archived(rt: &(impl Print + Eprint), sheet: &[u8], res: &[u8]) {
+    let mut out = [0u8; 930000];
+    let count = pages::archive_text(sheet, res, &mut out);
     if rt.write_all(&out[..count]).is_err() {
         let _ = rt.eprintln("archive: not all of the text was written");
     }
-    Ok(())
 }
 
-fn archive<R: Env + Files + Print + Eprint + Alloc>(rt: &R) -> io::Result<()> {
+fn archive<R: Env + Files + Print + Eprint>(rt: &R) {
     // One byte more than a sheet and a result may have, so that a file that is too long shows.
     let mut sheet = [0u8; text::MOST_BYTES + 1];
-    let mut result = vec![in rt.alloc(); 0u8; text::listing::MOST_LISTED + 1]?;
+    let mut result = [0u8; text::listing::MOST_LISTED + 1];
     let of_sheet = take(rt, 1, &mut sheet);
     let of_result = take(rt, 2, &mut result);
     if !of_sheet.readable {
         let _ = rt.eprintln("archive: the sheet could not be read");
-        return Ok(());
+        return;
     }
     if !of_result.readable {
         let _ = rt.eprintln("archive: the result could not be read");
-        return Ok(());
+        return;
     }
-    print_archived(rt, &sheet[..of_sheet.count], &result[..of_result.count])
+    print_archived(rt, &sheet[..of_sheet.count], &result[..of_result.count]);
 }
 
 // Where the help cannot be written, there is nobody to be told.
@@ -113,10 +109,10 @@ fn is_given(env: &impl Env, argument: usize) -> bool {
     !matches!(env.arg(argument, &mut []), Err(FillError::NotPresent))
 }
 
-fn main(rt: HostRuntime) -> io::Result<()> {
+fn main(rt: HostRuntime) {
     if !is_given(&rt, 2) | is_given(&rt, 3) {
         help(&rt);
-        return Ok(());
+    } else {
+        archive(&rt);
     }
-    archive(&rt)
 }

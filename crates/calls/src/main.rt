@@ -11,7 +11,7 @@ mod view;
 use answers::answer;
 use std::env::FillError;
 use std::io;
-use std::io::{BufWriter, ErrorKind, Read, Write};
+use std::io::{ErrorKind, Read, Write};
 use std::rt::Env;
 
 // A line that is being read: its length so far, and whether it is too long to be kept.
@@ -103,15 +103,13 @@ fn has_argument(env: &impl Env) -> bool {
     !matches!(env.arg(1, &mut []), Err(FillError::NotPresent))
 }
 
-fn main(rt: HostRuntime) -> io::Result<()> {
+fn main(rt: HostRuntime) {
     if has_argument(&rt) {
         help::help(&rt);
-        return Ok(());
+    } else {
+        // The bytes of the longest line: MOST words of nine bytes, with a call's name and numbers before them.
+        let mut text = [0u8; 150000];
+        // Where an answer cannot be written, there is nobody to be told, and no later line is answered.
+        let _ = answer_all(&mut rt.reader(), &mut io::writer(&rt), &mut text);
     }
-    // The bytes of the longest line: MOST words of nine bytes, with a call's name and numbers before them.
-    let mut text = vec![in rt.alloc(); 0u8; 150000]?;
-    let mut out = BufWriter::new(rt.alloc(), io::writer(&rt))?;
-    // Where an answer cannot be written, there is nobody to be told, and no later line is answered.
-    let _ = answer_all(&mut rt.reader(), &mut out, &mut text);
-    Ok(())
 }

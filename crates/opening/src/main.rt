@@ -6,7 +6,6 @@
 ghost use Rattle.std.specs.Prelude.{◌≤◌, length};
 
 use std::env::FillError;
-use std::io;
 use std::io::{ErrorKind, Read};
 use std::rt::Env;
 
@@ -43,19 +42,15 @@ fn read_full(input: &mut impl Read, bytes: &mut [u8]) -> usize
     count
 }
 
-fn print_opening(rt: &(impl Input + Print + Eprint + Alloc)) -> io::Result<()> {
+fn print_opening(rt: &(impl Input + Print + Eprint)) {
     // One byte more than a sheet may have, so that input that is too long shows.
     let mut input = [0u8; text::MOST_BYTES + 1];
     let read = read_full(&mut rt.reader(), &mut input);
-    let mut out = vec![in rt.alloc(); 0u8; 135045]?;
-    let Some(out) = out.as_mut_array() else {
-        unreachable!()
-    };
-    let count = text::opening_text(&input[..read], out);
+    let mut out = [0u8; 135045];
+    let count = text::opening_text(&input[..read], &mut out);
     if rt.write_all(&out[..count]).is_err() {
         let _ = rt.eprintln("opening: not all of the result was written");
     }
-    Ok(())
 }
 
 // Where the help cannot be written, there is nobody to be told.
@@ -63,10 +58,10 @@ fn help(rt: &impl Print) {
     let _ = rt.print(HELP);
 }
 
-fn main(rt: HostRuntime) -> io::Result<()> {
+fn main(rt: HostRuntime) {
     if has_argument(&rt) {
         help(&rt);
-        return Ok(());
+    } else {
+        print_opening(&rt);
     }
-    print_opening(&rt)
 }
