@@ -1,7 +1,7 @@
 /* Opening call auctions: the calls of Boxashewu for programs in C, C++ and, by boxashewu.rs beside this file, Rust.
  *
- * The static library is libboxashewu.a, for x86-64 Linux. In the project's folder, with Rattle's command rt, it is built
- * and linked by
+ * The static library is libboxashewu.a, for Linux on a processor of x86-64-v2 or later. In the project's folder, with
+ * Rattle's command rt, it is built and linked by
  *
  *     (cd crates/boxashewu && rt lib)
  *     cc -Wall -Wextra -Wconversion -Wsign-conversion -Werror -Iinclude program.c crates/boxashewu/out/libboxashewu.a
