@@ -20,18 +20,18 @@ use Rattle.lines.specs.Lines.{LineOf, held_at}
 use Rattle.rules.proofs.Accepted.{SoundHeading, SoundTerms, SoundOrder, own_rows, sheet_refuses}
 use Rattle.rules.proofs.Grid.{OnGrid, on_grid_lem}
 use Rattle.rules.proofs.Lists.{length-listed}
-use Rattle.rules.specs.Answers.{gives, refuses, Check, row, downwards, check_answer, refused}
+use Rattle.rules.specs.Answers.{gives, refuses, Check, row, downwards, refused}
 use Rattle.rules.specs.AuctionPrice.{curve, level}
 use Rattle.rules.specs.Calls.{stepper_limit, curves_at, on_sheet, is_stepper, stepper, curves_of, first_standing, answer_by, answer}
 use Rattle.rules.specs.Grid.{nth, Scan, over_grid, on_grid}
 use Rattle.rules.specs.Limits.{same_side, stands, limit_in_force, entered_limit, rival_pieces, stepped, no_order, filed, numbered, standing}
 use Rattle.rules.specs.Opening.{first_start}
-use Rattle.rules.specs.Sheet.{heading_of, orders_of, AcceptedSheet}
-use Rattle.rules.specs.declared.Checked.TheVariants.{Accepted, Refused}
+use Rattle.rules.specs.Sheet.{heading_of, orders_of, check_sheet}
 use Rattle.rules.specs.declared.Heading.{Heading}
 use Rattle.rules.specs.declared.Order.{Order}
 use Rattle.rules.specs.declared.Pieces.{Pieces}
 use Rattle.rules.specs.declared.Refusal.{Refusal}
+use Rattle.rules.specs.declared.Sheet.{Sheet}
 use Rattle.rules.specs.declared.Side.{Side}
 use Rattle.rules.specs.declared.Side.TheVariants.{Buy, Sell}
 use Rattle.rules.specs.declared.Terms.{Terms}
@@ -39,10 +39,8 @@ use Rattle.rules.specs.declared.Terms.TheVariants.{WithoutLimit, Limited, Steppe
 use Rattle.run.proofs.Accepted.{orders_are, own_order, count-is, sound, few_of_sheet}
 use Rattle.run.proofs.Places.{remaining_first}
 use Rattle.run.proofs.Running.{round_ranged, running_none}
-use Rattle.run.specs.Accepted.{AcceptedAs, OfSheet}
 use Rattle.run.specs.Starts.{start_of}
-use Rattle.sheet.specs.Reading.{heading_read, ReadsAs, OfWords}
-use Rattle.sheet.specs.declared.Reading.{Reading}
+use Rattle.sheet.specs.Reading.{AcceptedAs, OfSheet}
 
 -- ---- A Stepper's limit
 
@@ -56,21 +54,21 @@ stepped_on h Sell sound limit on none = (omega arith, omega (arith, sound.upper)
 
 -- ---- An accepted sheet
 
-module _ {ws : List ℕ} {h : Heading} {orders : List Order} (a : AcceptedAs ws h orders) where
+module _ {ws : List ℕ} {s : Sheet} (a : AcceptedAs ws s) where
   pub count-first : length (first_standing ws) ≡ (heading_of ws).count
   unfolding first_standing orders_of
   count-first = length-standing (heading_of ws) (orders_of ws) _ ∙ length-listed _ (heading_of ws).count
 
   -- the quantities are in their ranges
-  pub first_ranged : {quantities : List Pieces} → quantities ≡ map (λ (o : Order). o.quantity) orders → Ranged h (filed_in h orders) quantities
+  pub first_ranged : {quantities : List Pieces} → quantities ≡ map (λ (o : Order). o.quantity) s.orders → Ranged s.heading (filed_in s.heading s.orders) quantities
   unfolding start_of
   first_ranged e = rw e (round_ranged a (running_none a []))
 
   -- with them the orders stand as in the first round
-  pub first_line : {quantities : List Pieces} → quantities ≡ map (λ (o : Order). o.quantity) orders → {s : Side} {line : List ℕ}
-      → LineOf s (standing h (filed_in h orders) (remaining_in h quantities)) line → LineOf s (first_standing ws) line
+  pub first_line : {quantities : List Pieces} → quantities ≡ map (λ (o : Order). o.quantity) s.orders → {side : Side} {line : List ℕ}
+      → LineOf side (standing s.heading (filed_in s.heading s.orders) (remaining_in s.heading quantities)) line → LineOf side (first_standing ws) line
   unfolding first_standing first_start
-  first_line e made = rw (e, remaining_first h orders, orders_are a, a.headed) at made
+  first_line e made = rw (e, remaining_first s.heading s.orders, orders_are a, a.headed) at made
 
   module _ (k : ℕ) where
     limit_answer : answer (stepper_limit ws k)
@@ -78,21 +76,21 @@ module _ {ws : List ℕ} {h : Heading} {orders : List Order} (a : AcceptedAs ws 
     unfolding answer answer_by downwards
     limit_answer = own_rows ws a.passes (row 9 (not (is_stepper ws k)) ∷ []) _
 
-    pub no_such_order : h.count ≤ k → refuses 9 0 ≡ answer (stepper_limit ws k)
+    pub no_such_order : s.heading.count ≤ k → refuses 9 0 ≡ answer (stepper_limit ws k)
     no_such_order past = rw (limit_answer, le-ltb k (heading_of ws).count (omega (arith, count-is a)))
 
-    module _ (l : k < h.count) where
+    module _ (l : k < s.heading.count) where
       -- whether the order is a Stepper is told by its terms
-      own_terms : is_stepper ws k ≡ stepper (filed orders k).terms
+      own_terms : is_stepper ws k ≡ stepper (filed s.orders k).terms
       own_terms = rw (lt-ltb k (heading_of ws).count (omega (arith, count-is a)), own_order a k l)
 
-      pub no_stepper : stepper (filed orders k).terms ≡ false → refuses 9 0 ≡ answer (stepper_limit ws k)
+      pub no_stepper : stepper (filed s.orders k).terms ≡ false → refuses 9 0 ≡ answer (stepper_limit ws k)
       no_stepper other = rw (limit_answer, own_terms, other)
 
       -- its order at its limit in force
       own_stands : numbered (first_standing ws) k
-          ≡ stands (filed orders k)
-          (limit_in_force (heading_of ws) (filed orders k).side (filed orders k).terms
+          ≡ stands (filed s.orders k)
+          (limit_in_force (heading_of ws) (filed s.orders k).side (filed s.orders k).terms
           (over_grid (rival_pieces (heading_of ws) (orders_of ws) (first_start ws).remaining k)))
           (get_or (first_start ws).remaining k 0)
       unfolding first_standing
@@ -100,11 +98,11 @@ module _ {ws : List ℕ} {h : Heading} {orders : List Order} (a : AcceptedAs ws 
           rw (← own_order a k l)
           (standing-at (heading_of ws) (orders_of ws) (first_start ws).remaining k (omega (arith, count-is a, count-orders ws)))
 
-      own_sound : SoundOrder (filed orders k)
+      own_sound : SoundOrder (filed s.orders k)
       own_sound = rw (← own_order a k l) ((sound a).orders k no_order (omega (arith, count-is a)))
 
-      own : same_side (filed orders k).side (numbered (first_standing ws) k).side ≡ true
-      own = rw own_stands (side_same (filed orders k).side)
+      own : same_side (filed s.orders k).side (numbered (first_standing ws) k).side ≡ true
+      own = rw own_stands (side_same (filed s.orders k).side)
 
       some_left : 0 < (numbered (first_standing ws) k).remaining.0
       unfolding first_start
@@ -112,25 +110,25 @@ module _ {ws : List ℕ} {h : Heading} {orders : List Order} (a : AcceptedAs ws 
           rw (own_stands, get_or-map (λ (o : Order). o.quantity.0) (orders_of ws) k no_order, own_order a k l) own_sound.some
 
       -- a Stepper's limit in force is a price of the grid
-      limit_on : stepper (filed orders k).terms ≡ true → OnGrid (numbered (first_standing ws) k).limit.0
+      limit_on : stepper (filed s.orders k).terms ≡ true → OnGrid (numbered (first_standing ws) k).limit.0
       unfolding limit_in_force entered_limit
-      limit_on steps = rw own_stands (go (filed orders k).terms steps own_sound.terms _)
+      limit_on steps = rw own_stands (go (filed s.orders k).terms steps own_sound.terms _)
         where
           go : (t : Terms) → stepper t ≡ true → SoundTerms t → (rivals : Scan ℕ)
-              → OnGrid (limit_in_force (heading_of ws) (filed orders k).side t rivals)
+              → OnGrid (limit_in_force (heading_of ws) (filed s.orders k).side t rivals)
           go (WithoutLimit w) e so rivals = absurd (false≢true e)
           go (Limited limit w) e so rivals = absurd (false≢true e)
-          go (Stepper limit q) e so rivals = stepped_on (heading_of ws) (filed orders k).side (sound a).heading limit.0 so.0 _
+          go (Stepper limit q) e so rivals = stepped_on (heading_of ws) (filed s.orders k).side (sound a).heading limit.0 so.0 _
 
-      pub stepper_stands : stepper (filed orders k).terms ≡ true → {place p : ℕ}
-          → (k < length (first_standing ws) → same_side (filed orders k).side (numbered (first_standing ws) k).side ≡ true
-          → 0 < (numbered (first_standing ws) k).remaining.0 → place ≡ place_of (filed orders k).side (numbered (first_standing ws) k).limit.0)
-          → p ≡ nth (filed orders k).side place → gives (p ∷ []) ≡ answer (stepper_limit ws k)
+      pub stepper_stands : stepper (filed s.orders k).terms ≡ true → {place p : ℕ}
+          → (k < length (first_standing ws) → same_side (filed s.orders k).side (numbered (first_standing ws) k).side ≡ true
+          → 0 < (numbered (first_standing ws) k).remaining.0 → place ≡ place_of (filed s.orders k).side (numbered (first_standing ws) k).limit.0)
+          → p ≡ nth (filed s.orders k).side place → gives (p ∷ []) ≡ answer (stepper_limit ws k)
       stepper_stands steps found is =
           rw (limit_answer, own_terms, steps)
           (ap (λ (x : ℕ). gives (x ∷ []))
-          (is ∙ ap (nth (filed orders k).side) (found (omega (arith, count-first, count-is a)) own some_left)
-          ∙ price_placed (filed orders k).side _ (limit_on steps)))
+          (is ∙ ap (nth (filed s.orders k).side) (found (omega (arith, count-first, count-is a)) own some_left)
+          ∙ price_placed (filed s.orders k).side _ (limit_on steps)))
 
   module _ (p : ℕ) where
     curves_answer_lem : answer (curves_at ws p)
@@ -152,31 +150,20 @@ module _ {ws : List ℕ} {h : Heading} {orders : List Order} (a : AcceptedAs ws 
         held t q =
             held_curve q (place_of t p) (placed_on t p (on_grid_lem p e)) ∙ ap (curve t (first_standing ws)) (price_placed t p (on_grid_lem p e))
 
--- ---- From the reading to the answer
+-- ---- A refused sheet
 
-module _ (ws : List ℕ) {r : Reading} (reads : ReadsAs ws r) where
-  pub accepted_as : r.checked ≡ Accepted → AcceptedAs ws r.heading r.orders
-  unfolding heading_read
-  accepted_as e =
-      let passes : AcceptedSheet ws = sym reads.checked ∙ ap check_answer e in
-      record { passes = passes; headed = reads.heading ∙ rw passes; placed = reads.orders }
+module _ (ws : List ℕ) (refusal : Refusal) (fault : check_sheet ws ≡ refused refusal) where
+  -- it refuses every call, whatever its rows
+  pub refused_call : (rows : List Check) (vs : List ℕ) → refused refusal ≡ on_sheet ws rows vs
+  refused_call rows vs = sym (sheet_refuses ws fault rows vs)
 
-  -- a refused sheet refuses every call, whatever its rows
-  pub refused_call : {refusal : Refusal} → r.checked ≡ Refused refusal → (own : List Check) (vs : List ℕ)
-      → refused refusal ≡ on_sheet ws own vs
-  refused_call e own vs = sym (sheet_refuses ws (sym reads.checked ∙ ap check_answer e) own vs)
-
-  pub limit_refused : {refusal : Refusal} → r.checked ≡ Refused refusal → (k : ℕ) → refused refusal ≡ answer (stepper_limit ws k)
+  pub limit_refused : (k : ℕ) → refused refusal ≡ answer (stepper_limit ws k)
   unfolding answer answer_by
-  limit_refused e k = refused_call e _ _
+  limit_refused k = refused_call _ _
 
-  pub curves_refused : {refusal : Refusal} → r.checked ≡ Refused refusal → (p : ℕ) → refused refusal ≡ answer (curves_at ws p)
+  pub curves_refused : (p : ℕ) → refused refusal ≡ answer (curves_at ws p)
   unfolding answer answer_by
-  curves_refused e p = refused_call e _ _
-
--- a reading of an accepted sheet is one of its heading and orders
-pub of_sheet : {r : Reading} → OfWords r → r.checked ≡ Accepted → OfSheet r.heading r.orders
-of_sheet s e = record { words = s.words; accepted = accepted_as s.words s.reads e }
+  curves_refused p = refused_call _ _
 
 -- ---- The number of an order, tested against their count
 
@@ -187,6 +174,5 @@ pub has_its_order : {found : Bool} {k n : ℕ} → found ≡ ltb k n → not fou
 has_its_order e within = ltb-true _ _ (sym e ∙ not-false _ within)
 
 -- an order of the sheet has a place
-pub order_placed : {r : Reading} → OfWords r → r.checked ≡ Accepted → (k : ℕ) {found : Bool} → found ≡ ltb k r.heading.count
-    → not found ≡ false → k < 120
-order_placed s accepted k e within = let there : k < _ = has_its_order e within in omega (arith, there, few_of_sheet (of_sheet s accepted))
+pub order_placed : {s : Sheet} → OfSheet s → (k : ℕ) {found : Bool} → found ≡ ltb k s.heading.count → not found ≡ false → k < 120
+order_placed o k e within = let there : k < _ = has_its_order e within in omega (arith, there, few_of_sheet o)

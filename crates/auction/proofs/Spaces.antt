@@ -8,16 +8,12 @@ use Rattle.claims.specs.Fits.{Within}
 use Rattle.rules.proofs.Lists.{length-listed, first_words_lem}
 use Rattle.rules.specs.Answers.{gives, refuses, first_words, space_answer}
 use Rattle.rules.specs.Calls.{Call, answer, Writes}
-use Rattle.rules.specs.declared.SpaceAnswer.{SpaceAnswer}
-use Rattle.rules.specs.declared.SpaceAnswer.TheVariants.{Written, Refused}
+use Rattle.rules.specs.declared.Refusal.{Refusal}
+use Rattle.std.specs.Prelude.{Ok, Err}
+use Rattle.std.specs.declared.result.Result.{Result}
 
 pub refusal_writes : {call : Call} {n k : ℕ} {space : List ℕ} → answer call ≡ refuses n k → Writes call space space (refuses n k)
 refusal_writes refusal = record { answers = sym refusal; holds = rw refusal }
-
--- the same of an answer that is known
-pub answered_as : {call : Call} {before after : List ℕ} {r : SpaceAnswer} (s : SpaceAnswer) → r ≡ s → Writes call before after (space_answer r after)
-    → Writes call before after (space_answer s after)
-answered_as s e writes = rw e at writes
 
 pub words_write : {call : Call} {words before after : List ℕ} {count : ℕ} → answer call ≡ gives words → length words ≡ count
     → after ≡ words ++ drop count before → Writes call before after (gives (first_words count after))
@@ -33,6 +29,6 @@ words_fit {call} {before} {after} written writes =
     let stand : after ≡ given ++ drop (length given) before = writes.holds ∙ rw (← writes.answers) in
     omega (arith, ap length stand ∙ length-append given (drop (length given) before), length-listed (λ i. get_or after i 0) written)
 
-pub written_within : {call : Call} {before after : List ℕ} (a : SpaceAnswer) → Writes call before after (space_answer a after) → Within a (length after)
-written_within (Refused r) writes = tt
-written_within (Written count) writes = words_fit count writes
+pub written_within : {call : Call} {before after : List ℕ} (a : Result ℕ Refusal) → Writes call before after (space_answer a after) → Within a (length after)
+written_within (Err r) writes = tt
+written_within (Ok count) writes = words_fit count writes

@@ -9,20 +9,17 @@ use Rattle.rules.proofs.Accepted.{too_few_words}
 use Rattle.rules.specs.Answers.{gives, refuses, refused, first_words}
 use Rattle.rules.specs.Calls.{opening, answer_by, answer, Writes}
 use Rattle.rules.specs.Opening.{opening_space}
-use Rattle.rules.specs.declared.Checked.TheVariants.{Refused}
-use Rattle.rules.specs.declared.Heading.{Heading}
-use Rattle.rules.specs.declared.Order.{Order}
+use Rattle.rules.specs.Sheet.{check_sheet}
 use Rattle.rules.specs.declared.Refusal.{Refusal}
+use Rattle.rules.specs.declared.Sheet.{Sheet}
 use Rattle.run.proofs.Accepted.{count-is}
-use Rattle.run.specs.Accepted.{AcceptedAs}
 use Rattle.run.specs.Starts.{Ran}
-use Rattle.sheet.specs.Reading.{ReadsAs}
-use Rattle.sheet.specs.declared.Reading.{Reading}
+use Rattle.sheet.specs.Reading.{AcceptedAs}
 use Rattle.auction.proofs.FirstRound.{refused_call}
 use Rattle.auction.proofs.Spaces.{refusal_writes, words_write}
 
-module _ {ws : List ℕ} {h : Heading} {orders : List Order} (a : AcceptedAs ws h orders) {before : List ℕ} {needed : ℕ}
-    (sized : needed ≡ opening_space h.count) where
+module _ {ws : List ℕ} {s : Sheet} (a : AcceptedAs ws s) {before : List ℕ} {needed : ℕ}
+    (sized : needed ≡ opening_space s.heading.count) where
   -- too few words: nothing is written
   pub opening_too_small : length before < needed → Writes (opening ws (length before)) before before (refuses 10 0)
   unfolding answer answer_by
@@ -35,7 +32,7 @@ module _ {ws : List ℕ} {h : Heading} {orders : List Order} (a : AcceptedAs ws 
       words_write (opening_given ws a.passes (rw (sized, count-is a) at enough)) (sym ran.count) ran.holds
 
 -- a refused sheet refuses the call, and nothing is written
-pub opening_refused : (ws : List ℕ) {r : Reading} → ReadsAs ws r → {refusal : Refusal} → r.checked ≡ Refused refusal → {space : List ℕ}
+pub opening_refused : (ws : List ℕ) (refusal : Refusal) → check_sheet ws ≡ refused refusal → {space : List ℕ}
     → Writes (opening ws (length space)) space space (refused refusal)
 unfolding answer answer_by
-opening_refused ws reads e = refusal_writes (sym (refused_call ws reads e _ _))
+opening_refused ws refusal fault = refusal_writes (sym (refused_call ws refusal fault _ _))

@@ -23,17 +23,13 @@ use Rattle.rules.specs.Calls.{opening, opening_fees, answer_by, answer, Writes}
 use Rattle.rules.specs.Fees.{tariff_stands, fill_fee, order_fee, trade_said, fees_on}
 use Rattle.rules.specs.Opening.{opening_words, opening_space}
 use Rattle.rules.specs.Result.{count, rounds_in, word_place, round_said}
-use Rattle.rules.specs.Sheet.{AcceptedSheet}
+use Rattle.rules.specs.Sheet.{check_sheet, AcceptedSheet}
 use Rattle.rules.specs.Words.{word_at}
-use Rattle.rules.specs.declared.Checked.TheVariants.{Refused}
-use Rattle.rules.specs.declared.Heading.{Heading}
-use Rattle.rules.specs.declared.Order.{Order}
 use Rattle.rules.specs.declared.Refusal.{Refusal}
+use Rattle.rules.specs.declared.Sheet.{Sheet}
 use Rattle.rules.specs.declared.Tariff.{Tariff}
 use Rattle.run.proofs.Accepted.{count-is}
-use Rattle.run.specs.Accepted.{AcceptedAs}
-use Rattle.sheet.specs.Reading.{ReadsAs}
-use Rattle.sheet.specs.declared.Reading.{Reading}
+use Rattle.sheet.specs.Reading.{AcceptedAs}
 use Rattle.auction.proofs.FirstRound.{refused_call}
 use Rattle.auction.proofs.Spaces.{refusal_writes, words_fit}
 
@@ -72,17 +68,16 @@ module _ {ws : List ℕ} {t : Tariff} {space list : List ℕ} where
       → OpenedWithFees ws t space space list list (refuses n k)
   fees_refused refusal = opening_fees_holds (refusal_writes refusal) (rw refusal)
 
-  pub sheet_refused : {r : Reading} → ReadsAs ws r → {refusal : Refusal} → r.checked ≡ Refused refusal
-      → OpenedWithFees ws t space space list list (refused refusal)
+  pub sheet_refused : (refusal : Refusal) → check_sheet ws ≡ refused refusal → OpenedWithFees ws t space space list list (refused refusal)
   unfolding answer answer_by
-  sheet_refused reads e = fees_refused (sym (refused_call ws reads e _ _))
+  sheet_refused refusal fault = fees_refused (sym (refused_call ws refusal fault _ _))
 
-  module _ {h : Heading} {orders : List Order} (a : AcceptedAs ws h orders) where
+  module _ {s : Sheet} (a : AcceptedAs ws s) where
     pub tariff_refused : tariff_stands t ≡ false → OpenedWithFees ws t space space list list (refuses 16 0)
     unfolding answer answer_by downwards
     tariff_refused falls = fees_refused (own_rows ws a.passes _ _ ∙ rw falls)
 
-    pub list_refused : tariff_stands t ≡ true → length list < h.count → OpenedWithFees ws t space space list list (refuses 10 0)
+    pub list_refused : tariff_stands t ≡ true → length list < s.heading.count → OpenedWithFees ws t space space list list (refuses 10 0)
     unfolding answer answer_by downwards
     list_refused stands short =
         fees_refused
@@ -104,29 +99,29 @@ module _ {ws before after : List ℕ} (written : ℕ) (writes : Writes (opening 
 
 -- ---- The opening runs
 
-module _ {ws : List ℕ} {h : Heading} {orders : List Order} (a : AcceptedAs ws h orders) (t : Tariff) (stands : tariff_stands t ≡ true)
+module _ {ws : List ℕ} {s : Sheet} (a : AcceptedAs ws s) (t : Tariff) (stands : tariff_stands t ≡ true)
     {before after : List ℕ} where
   -- what is written and answered is what the opening writes and answers
-  as_opened : {answered : Answer} → Writes (opening ws (length before)) before after answered → (list : List ℕ) → h.count ≤ length list
+  as_opened : {answered : Answer} → Writes (opening ws (length before)) before after answered → (list : List ℕ) → s.heading.count ≤ length list
       → Writes (opening_fees ws t (length before) (length list)) before after answered
   as_opened writes list places =
       let same = as_opening ws t (length before) (length list) stands (omega (arith, count-is a)) in
       record { answers = writes.answers ∙ sym same; holds = rw same writes.holds }
 
   -- too small a space refuses the call as it refuses the opening
-  pub space_refused : {n k : ℕ} → Writes (opening ws (length before)) before after (refuses n k) → (list : List ℕ) → h.count ≤ length list
+  pub space_refused : {n k : ℕ} → Writes (opening ws (length before)) before after (refuses n k) → (list : List ℕ) → s.heading.count ≤ length list
       → OpenedWithFees ws t before after list list (refuses n k)
   space_refused writes list places =
       let same = as_opened writes list places in
       opening_fees_holds same (rw (← same.answers))
 
   module _ (written : ℕ) (writes : Writes (opening ws (length before)) before after (gives (first_words written after))) where
-    pub words_chargeable : Chargeable t h.count (take written after)
+    pub words_chargeable : Chargeable t s.heading.count (take written after)
     words_chargeable = rw (words_taken written writes, count-is a) (chargeable t ws stands a.passes)
 
     -- the fees go in front of the list
-    pub fees_written : (list : List ℕ) {listAfter : List ℕ} → h.count ≤ length list
-        → listAfter ≡ fees_in t h.count (take written after) ++ drop h.count list
+    pub fees_written : (list : List ℕ) {listAfter : List ℕ} → s.heading.count ≤ length list
+        → listAfter ≡ fees_in t s.heading.count (take written after) ++ drop s.heading.count list
         → OpenedWithFees ws t before after list listAfter (gives (first_words written after))
     unfolding fees_on
     fees_written list places charged =

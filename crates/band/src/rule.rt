@@ -1,14 +1,17 @@
 // The band rule of an instrument kind.
+#![tactic(auto, using(std::proofs::lemmas::Bool::Decides::nat_tests), unfolding(rules::specs::Answers::downwards, rules::specs::Band::next_band_for, rules::specs::Band::next_upper, rules::specs::Band::next_lower, rules::specs::Band::percent_of))]
+
 ghost use Rattle.std.specs.Prelude.{◌≡◌, ◌≤◌};
 ghost use Rattle.rules.specs.Answers.{band_answer};
 ghost use Rattle.rules.specs.Band.{percent_of, next_upper, next_lower, next_band_for};
 
-use rules::{BandAnswer, LAST_PRICE, Price, Refusal};
+use rules::{Band, LAST_PRICE, Price, Refusal};
 
 // How far the next band reaches from the indicative price, in percent of it.
 #[derive(Clone, Copy)]
 pub(crate) struct BandRule {
     pub percent: u32,
+    ghost at_most_100: { percent ≤ 100 },
 }
 
 impl BandRule {
@@ -34,7 +37,7 @@ impl BandRule {
         }
     }
 
-    // The rule of a known code.
+    // The rule of a code that is known; any but 0 gives that of certificates, as `percent_of` says. A number, as C hands it in.
     pub(crate) fn for_code(code: u32) -> BandRule
         ensures { result.percent ≡ percent_of code }
     {
@@ -47,7 +50,7 @@ impl BandRule {
 
     // The upper bound, rounded down; one equal to the indicative price goes up 1.
     fn upper(self, indicative: Price) -> Price
-        requires { (self.percent ≤ 100) × (indicative.0 ≤ 1000000) }
+        requires { indicative.0 ≤ 1000000 }
         ensures { result.0 ≡ next_upper self.percent indicative.0 }
     {
         let i = indicative.0;
@@ -59,9 +62,10 @@ impl BandRule {
         }
     }
 
-    // The lower bound, rounded up; one equal to the indicative price goes down 1.
+    // The lower bound, rounded up; one equal to the indicative price goes down 1. (As with the widened bounds, the two
+    // round and move to opposite sides.)
     fn lower(self, indicative: Price) -> Price
-        requires { (self.percent ≤ 100) × (1 ≤ indicative.0) × (indicative.0 ≤ 1000000) }
+        requires { (1 ≤ indicative.0) × (indicative.0 ≤ 1000000) }
         ensures { result.0 ≡ next_lower self.percent indicative.0 }
     {
         let i = indicative.0;
@@ -74,18 +78,18 @@ impl BandRule {
     }
 
     // The next band around an indicative price.
-    pub(crate) fn next(self, indicative: Price) -> BandAnswer
-        requires { (self.percent ≤ 100) × (1 ≤ indicative.0) × (indicative.0 ≤ 1000000) }
+    pub(crate) fn next(self, indicative: Price) -> Result<Band, Refusal>
+        requires { (1 ≤ indicative.0) × (indicative.0 ≤ 1000000) }
         ensures { band_answer result ≡ next_band_for self.percent indicative.0 }
     {
         if indicative.0 == 1 {
-            return BandAnswer::Refused(Refusal::Band);
+            return Err(Refusal::Band);
         }
         let upper = self.upper(indicative);
         if LAST_PRICE < upper.0 {
-            return BandAnswer::Refused(Refusal::Band);
+            return Err(Refusal::Band);
         }
         let lower = self.lower(indicative);
-        BandAnswer::Bounds { lower, upper }
+        Ok(Band { lower, upper })
     }
 }

@@ -2,15 +2,31 @@
 // and the line of a side in a round, its orders with pieces left by limit in force.
 #![tactic(auto)]
 
+ghost use Rattle.std.specs.Prelude.{◌≡◌};
+ghost use Rattle.book.specs.Book.{line_of};
+
+use lines::line::Line;
+use rules::Side;
+
 pub mod entering;
 pub mod force;
 
-// The orders of a sheet by entered limit, one line a side: the first of each array, as many as its count says.
-// The amount of an entry is one more than a Stepper ignores, 0 for all others.
-#[derive(Clone, Copy)]
+// The orders of a sheet by entered limit, one line a side. The amount of an entry is one more than a Stepper ignores,
+// 0 for all others.
+#[derive(Drop)]
 pub struct Book {
-    pub buys: usize,
-    pub bids: [u64; 120],
-    pub sells: usize,
-    pub asks: [u64; 120],
+    pub bids: Line,
+    pub asks: Line,
+}
+
+impl Book {
+    // The line of a side.
+    pub fn side(&self, side: Side) -> &Line
+        ensures { result.now ≡ line_of side self.now }
+    {
+        match side {
+            Side::Buy => &self.bids,
+            Side::Sell => &self.asks,
+        }
+    }
 }

@@ -1,9 +1,11 @@
 -- Clause 10.7 of docs/RULES.md: what the library hands to a program in C or in Rust, the answer of a call as a record
 -- of plain numbers.
-use Rattle.std.specs.Prelude.{[], ℕ, length, get_or}
-use Rattle.rules.specs.Answers.{Answer, gives, refuses}
+use Rattle.std.specs.Prelude.{[], ℕ, length, get_or, Some, None}
+use Rattle.std.specs.declared.option.Option.{Option}
+use Rattle.rules.specs.Answers.{Answer, gives, refuses, refused}
 use Rattle.rules.specs.Calls.{words_given}
 use Rattle.rules.specs.Stored.{StoredAnswer, answers, differs}
+use Rattle.rules.specs.declared.Refusal.{Refusal}
 use Rattle.boxashewu.specs.declared.clock.WaitingReply.{WaitingReply}
 use Rattle.boxashewu.specs.declared.replies.BandReply.{BandReply}
 use Rattle.boxashewu.specs.declared.replies.CurvesReply.{CurvesReply}
@@ -22,6 +24,11 @@ refusal_in (refuses number place) = number
 abbrev pub place_in : Answer → ℕ
 place_in (gives vs) = 0
 place_in (refuses number place) = place
+
+-- [10.7] Both of a refusal, or of none.
+abbrev pub fault_of : Option Refusal → ℕ × ℕ
+fault_of None = (0, 0)
+fault_of (Some r) = (refusal_in (refused r), place_in (refused r))
 
 -- [10.7] The number that an answer gives at place i; 0 where it gives none there.
 abbrev pub given_at : Answer → ℕ → ℕ

@@ -1,10 +1,10 @@
 // Clause 10.7: the record of the waiting clock. Its refusal has the place of a word.
 ghost use Rattle.std.specs.Prelude.{◌≡◌, [], ◌∷◌};
-ghost use Rattle.rules.specs.Answers.{gives, phase_numbers, clock_numbers, waiting_answer};
+ghost use Rattle.rules.specs.Answers.{phase_numbers, waiting_answer};
 ghost use Rattle.boxashewu.specs.Replies.{waiting_reply};
 
-use crate::replies::{ANSWERED, NO_PLACE};
-use rules::{Clock, Phase, WaitingAnswer};
+use crate::replies::fault;
+use rules::{Clock, Phase, Price, Refusal};
 
 #[repr(C)]
 #[derive(Clone, Copy)]
@@ -19,62 +19,41 @@ pub struct WaitingReply {
     pub due: u32,
 }
 
-// The three numbers of a phase.
-#[derive(Clone, Copy)]
-pub(crate) struct PhaseReply {
-    pub phase: u32,
-    pub start: u32,
-    pub side: u32,
-}
+// What stands for the clock where the call refuses: each of its numbers is 0.
+const NO_CLOCK: Clock = Clock {
+    second: 0,
+    phase: Phase::Idle,
+    lower: Price(0),
+    upper: Price(0),
+    due: 0,
+};
 
-fn phase_reply(phase: Phase) -> PhaseReply
-    ensures { phase_numbers phase ≡ result.phase ∷ result.start ∷ result.side ∷ [] }
+// The three numbers of a phase.
+fn numbers_of(phase: Phase) -> (u32, u32, u32)
+    ensures { phase_numbers phase ≡ result.0 ∷ result.1 ∷ result.2 ∷ [] }
 {
     match phase {
-        Phase::Idle => PhaseReply {
-            phase: 0,
-            start: 0,
-            side: 0,
-        },
-        Phase::Waiting { start, side } => PhaseReply {
-            phase: 1,
+        Phase::Idle => (0, 0, 0),
+        Phase::Waiting { start, side } => (1, start, side.number()),
+    }
+}
+
+impl From<Result<Clock, Refusal>> for WaitingReply {
+    ghost from_gives = { λ answer reply. reply ≡ waiting_reply (waiting_answer answer) };
+
+    fn from(answer: Result<Clock, Refusal>) -> WaitingReply {
+        let (refusal, place) = fault(answer.err());
+        let clock = answer.unwrap_or(NO_CLOCK);
+        let (phase, start, side) = numbers_of(clock.phase);
+        WaitingReply {
+            refusal,
+            place,
+            phase,
             start,
             side,
-        },
-    }
-}
-
-fn clock_reply(clock: Clock) -> WaitingReply
-    ensures { result ≡ waiting_reply (gives (clock_numbers clock)) }
-{
-    let phase = clock.phase;
-    let said = phase_reply(phase);
-    WaitingReply {
-        refusal: ANSWERED,
-        place: NO_PLACE,
-        phase: said.phase,
-        start: said.start,
-        side: said.side,
-        lower: clock.lower.0,
-        upper: clock.upper.0,
-        due: clock.due,
-    }
-}
-
-pub(crate) fn waiting_reply(answer: WaitingAnswer) -> WaitingReply
-    ensures { result ≡ waiting_reply (waiting_answer answer) }
-{
-    match answer {
-        WaitingAnswer::Stands(clock) => clock_reply(clock),
-        WaitingAnswer::Refused(refusal) => WaitingReply {
-            refusal: refusal.number(),
-            place: refusal.place(),
-            phase: 0,
-            start: 0,
-            side: 0,
-            lower: 0,
-            upper: 0,
-            due: 0,
-        },
+            lower: clock.lower.0,
+            upper: clock.upper.0,
+            due: clock.due,
+        }
     }
 }

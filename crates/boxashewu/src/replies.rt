@@ -2,9 +2,9 @@
 // They are laid out as C lays them out; include/boxashewu.h has them under C's names.
 ghost use Rattle.std.specs.Prelude.{◌≡◌, List, ℕ};
 ghost use Rattle.rules.specs.Answers.{check_answer, price_answer, curves_answer, space_answer, band_answer};
-ghost use Rattle.boxashewu.specs.Replies.{sheet_reply, price_reply, curves_reply, space_reply, band_reply};
+ghost use Rattle.boxashewu.specs.Replies.{fault_of, sheet_reply, price_reply, curves_reply, space_reply, band_reply};
 
-use rules::{BandAnswer, Checked, CurvesAnswer, PriceAnswer, SpaceAnswer};
+use rules::{Band, Curves, Price, Refusal};
 
 // What stands for the refusal and for its place where a call answers.
 pub(crate) const ANSWERED: u32 = 0;
@@ -53,95 +53,83 @@ pub struct BandReply {
     pub upper: u32,
 }
 
-pub(crate) fn sheet_reply(answer: Checked) -> SheetReply
-    ensures { result ≡ sheet_reply (check_answer answer) }
+// The number and the place of a refusal, or what stands for them where a call answers.
+pub(crate) fn fault(refusal: Option<Refusal>) -> (u32, usize)
+    ensures { result ≡ fault_of refusal }
 {
-    match answer {
-        Checked::Accepted => SheetReply {
-            refusal: ANSWERED,
-            order: NO_PLACE,
-        },
-        Checked::Refused(refusal) => SheetReply {
-            refusal: refusal.number(),
-            order: refusal.place(),
-        },
+    match refusal {
+        Some(refusal) => (refusal.number(), refusal.place()),
+        None => (ANSWERED, NO_PLACE),
     }
 }
 
-pub(crate) fn price_reply(answer: PriceAnswer) -> PriceReply
-    ensures { result ≡ price_reply (price_answer answer) }
-{
-    match answer {
-        PriceAnswer::At(price) => PriceReply {
-            refusal: ANSWERED,
-            order: NO_PLACE,
-            price: price.0,
-        },
-        PriceAnswer::Refused(refusal) => PriceReply {
-            refusal: refusal.number(),
-            order: refusal.place(),
-            price: 0,
-        },
+impl From<Result<(), Refusal>> for SheetReply {
+    ghost from_gives = { λ answer reply. reply ≡ sheet_reply (check_answer answer) };
+
+    fn from(answer: Result<(), Refusal>) -> SheetReply {
+        let (refusal, order) = fault(answer.err());
+        SheetReply { refusal, order }
     }
 }
 
-pub(crate) fn curves_reply(answer: CurvesAnswer) -> CurvesReply
-    ensures { result ≡ curves_reply (curves_answer answer) }
-{
-    match answer {
-        CurvesAnswer::At {
+impl From<Result<Price, Refusal>> for PriceReply {
+    ghost from_gives = { λ answer reply. reply ≡ price_reply (price_answer answer) };
+
+    fn from(answer: Result<Price, Refusal>) -> PriceReply {
+        let (refusal, order) = fault(answer.err());
+        let price = answer.map_or(0, |price| price.0);
+        PriceReply {
+            refusal,
+            order,
+            price,
+        }
+    }
+}
+
+impl From<Result<Curves, Refusal>> for CurvesReply {
+    ghost from_gives = { λ answer reply. reply ≡ curves_reply (curves_answer answer) };
+
+    fn from(answer: Result<Curves, Refusal>) -> CurvesReply {
+        let (refusal, order) = fault(answer.err());
+        let (demand, supply, volume) = answer.map_or(
+            (0, 0, 0),
+            |c| (c.demand.0, c.supply.0, c.volume.0),
+        );
+        CurvesReply {
+            refusal,
+            order,
             demand,
             supply,
             volume,
-        } => CurvesReply {
-            refusal: ANSWERED,
-            order: NO_PLACE,
-            demand: demand.0,
-            supply: supply.0,
-            volume: volume.0,
-        },
-        CurvesAnswer::Refused(refusal) => CurvesReply {
-            refusal: refusal.number(),
-            order: refusal.place(),
-            demand: 0,
-            supply: 0,
-            volume: 0,
-        },
+        }
     }
 }
 
-pub(crate) fn space_reply(answer: SpaceAnswer) -> SpaceReply
-    ensures { (space : List ℕ) → result ≡ space_reply (space_answer answer space) }
-{
-    match answer {
-        SpaceAnswer::Written(count) => SpaceReply {
-            refusal: ANSWERED,
-            order: NO_PLACE,
+impl From<Result<usize, Refusal>> for SpaceReply {
+    ghost from_gives = { λ answer reply. (space : List ℕ) → reply ≡ space_reply (space_answer answer space) };
+
+    fn from(answer: Result<usize, Refusal>) -> SpaceReply {
+        let (refusal, order) = fault(answer.err());
+        let count = answer.unwrap_or(0);
+        SpaceReply {
+            refusal,
+            order,
             count,
-        },
-        SpaceAnswer::Refused(refusal) => SpaceReply {
-            refusal: refusal.number(),
-            order: refusal.place(),
-            count: 0,
-        },
+        }
     }
 }
 
-pub(crate) fn band_reply(answer: BandAnswer) -> BandReply
-    ensures { result ≡ band_reply (band_answer answer) }
-{
-    match answer {
-        BandAnswer::Bounds { lower, upper } => BandReply {
-            refusal: ANSWERED,
-            order: NO_PLACE,
-            lower: lower.0,
-            upper: upper.0,
-        },
-        BandAnswer::Refused(refusal) => BandReply {
-            refusal: refusal.number(),
-            order: refusal.place(),
-            lower: 0,
-            upper: 0,
-        },
+impl From<Result<Band, Refusal>> for BandReply {
+    ghost from_gives = { λ answer reply. reply ≡ band_reply (band_answer answer) };
+
+    fn from(answer: Result<Band, Refusal>) -> BandReply {
+        let (refusal, order) = fault(answer.err());
+        let (lower, upper) = answer.map_or((0, 0), |band| (band.lower.0, band.upper.0));
+        BandReply {
+            refusal,
+            order,
+            lower,
+            upper,
+        }
     }
 }

@@ -4,10 +4,10 @@ ghost use Rattle.std.specs.Prelude.{◌≡◌};
 ghost use Rattle.rules.specs.Stored.{opens_answer, round_answer};
 ghost use Rattle.boxashewu.specs.Replies.{stored_reply, round_reply, no_round};
 
-use crate::replies::{ANSWERED, NO_PLACE};
-use rules::{OpensAnswer, RoundAnswer};
+use crate::replies::{ANSWERED, NO_PLACE, fault};
+use rules::{StoredRound, Unopened};
 
-// Whether the stored words differ from those of the opening.
+// Whether the stored words differ from those of the opening, as C has it.
 const SAME: u32 = 0;
 
 const DIFFERENT: u32 = 1;
@@ -36,28 +36,32 @@ pub struct RoundReply {
     pub count: usize,
 }
 
-pub(crate) fn stored_reply(answer: OpensAnswer) -> StoredReply
-    ensures { result ≡ stored_reply (opens_answer answer) }
-{
-    match answer {
-        OpensAnswer::Opened => StoredReply {
+impl From<Result<(), Unopened>> for StoredReply {
+    ghost from_gives = { λ answer reply. reply ≡ stored_reply (opens_answer answer) };
+
+    fn from(answer: Result<(), Unopened>) -> StoredReply {
+        let opened = StoredReply {
             refusal: ANSWERED,
             order: NO_PLACE,
             different: SAME,
             place: NO_PLACE,
-        },
-        OpensAnswer::Different(place) => StoredReply {
-            refusal: ANSWERED,
-            order: NO_PLACE,
-            different: DIFFERENT,
-            place,
-        },
-        OpensAnswer::Refused(refusal) => StoredReply {
-            refusal: refusal.number(),
-            order: refusal.place(),
-            different: SAME,
-            place: NO_PLACE,
-        },
+        };
+        match answer {
+            Ok(()) => opened,
+            Err(Unopened::Different(place)) => StoredReply {
+                different: DIFFERENT,
+                place,
+                ..opened
+            },
+            Err(Unopened::Refused(refusal)) => {
+                let (refusal, order) = fault(Some(refusal));
+                StoredReply {
+                    refusal,
+                    order,
+                    ..opened
+                }
+            }
+        }
     }
 }
 
@@ -79,27 +83,22 @@ fn no_round(stored: StoredReply) -> RoundReply
     }
 }
 
-pub(crate) fn round_reply(answer: RoundAnswer) -> RoundReply
-    ensures { result ≡ round_reply (round_answer answer) }
-{
-    match answer {
-        RoundAnswer::Reads {
-            summary,
-            fills,
-            count,
-        } => RoundReply {
-            refusal: ANSWERED,
-            order: NO_PLACE,
-            different: SAME,
-            place: NO_PLACE,
-            situation: summary.situation,
-            price: summary.price.0,
-            purchase: summary.purchase.0,
-            total: summary.total.0,
-            fills,
-            count,
-        },
-        RoundAnswer::Different(place) => no_round(stored_reply(OpensAnswer::Different(place))),
-        RoundAnswer::Refused(refusal) => no_round(stored_reply(OpensAnswer::Refused(refusal))),
+impl From<Result<StoredRound, Unopened>> for RoundReply {
+    ghost from_gives = { λ answer reply. reply ≡ round_reply (round_answer answer) };
+
+    fn from(answer: Result<StoredRound, Unopened>) -> RoundReply {
+        let none = no_round(StoredReply::from(answer.map(|_| ())));
+        match answer {
+            Ok(round) => RoundReply {
+                situation: round.summary.situation,
+                price: round.summary.price.0,
+                purchase: round.summary.purchase.0,
+                total: round.summary.total.0,
+                fills: round.fills,
+                count: round.count,
+                ..none
+            },
+            Err(_) => none,
+        }
     }
 }

@@ -1,169 +1,81 @@
 // The fields of a line: numbers after single spaces.
-ghost use Rattle.std.specs.Prelude.{◌≤◌, length};
+use rules::Tariff;
+use std::str;
 
-// The most fields that a line may have: room for the 366 words of the longest sheet and the 15,005 of the longest
-// result, and for more than that.
+// The most words that a line may have: room for the 366 of the longest sheet and the 15,005 of the longest result,
+// and for more than that.
 pub(crate) const MOST: usize = 16384;
 
-#[derive(Clone, Copy)]
-pub(crate) enum Number {
-    Is(u64),
-    Unreadable,
+// The text of a field of digits and small letters. A sign or a large letter, which the library would read, is no part
+// of a number here.
+fn digits(field: &[u8]) -> Option<&str> {
+    let is_digit = |byte: &u8| matches!(byte, b'0'..=b'9' | b'a'..=b'f');
+    let text = str::from_utf8(field).ok()?;
+    field.iter().all(is_digit).then_some(text)
 }
 
-#[derive(Clone, Copy)]
-pub(crate) enum Fields {
-    Count(usize),
-    Unreadable,
+// The decimal number that a field spells.
+fn number(field: &[u8]) -> Option<u64> {
+    u64::from_str_radix(digits(field)?, 10).ok()
 }
 
-// The value of a digit; 16 for any other byte.
-fn digit(byte: u8) -> u64 {
-    match byte {
-        b'0'..=b'9' => (byte - b'0') as u64,
-        b'a'..=b'f' => (byte - b'a' + 10) as u64,
-        _ => 16,
-    }
+// The word that a field spells, a hexadecimal number.
+fn word(field: &[u8]) -> Option<u32> {
+    u32::from_str_radix(digits(field)?, 16).ok()
 }
 
-// A number with one more hexadecimal digit, of 32 bits at most.
-fn with_hex(value: u64, digit: u64) -> Number {
-    if 0xfff_ffff < value {
-        return Number::Unreadable;
-    }
-    if 15 < digit {
-        return Number::Unreadable;
-    }
-    Number::Is(value * 16 + digit)
+// The text in front of the first space, and the text from there on.
+pub(crate) fn cut(text: &[u8]) -> (&[u8], &[u8]) {
+    let end = text.iter().position(|byte| *byte == b' ');
+    text.split_at(end.unwrap_or(text.len()))
 }
 
-// A number with one more decimal digit, of 64 bits at most.
-fn with_decimal(value: u64, digit: u64) -> Number {
-    if 9 < digit {
-        return Number::Unreadable;
-    }
-    if 1844674407370955161 < value {
-        return Number::Unreadable;
-    }
-    let tens = value * 10;
-    if u64::MAX - tens < digit {
-        return Number::Unreadable;
-    }
-    Number::Is(tens + digit)
+// The fields of a line that are not read yet. Where one doesn't spell what is asked for, there is none.
+#[derive(Drop)]
+pub(crate) struct Fields<'a> {
+    rest: &'a [u8],
 }
 
-fn with_digit(value: u64, digit: u64, hex: bool) -> Number {
-    if hex {
-        with_hex(value, digit)
-    } else {
-        with_decimal(value, digit)
+impl<'a> Fields<'a> {
+    pub(crate) fn new(text: &'a [u8]) -> Fields<'a> {
+        Fields { rest: text }
     }
-}
 
-// The number that a field spells.
-pub(crate) fn spelled(text: &[u8], hex: bool) -> Number {
-    if text.len() == 0 {
-        return Number::Unreadable;
+    pub(crate) fn number(&mut self) -> Option<u64> {
+        let (_, behind) = self.rest.split_first()?;
+        let (field, rest) = cut(behind);
+        self.rest = rest;
+        number(field)
     }
-    let mut value: u64 = 0;
-    for byte in text {
-        match with_digit(value, digit(*byte), hex) {
-            Number::Is(more) => value = more,
-            Number::Unreadable => return Number::Unreadable,
+
+    // The next number as an argument of 32 bits. A larger one becomes the largest, which every call refuses as it would
+    // the number itself.
+    pub(crate) fn argument(&mut self) -> Option<u32> {
+        let number = self.number()?;
+        Some(u32::try_from(number).unwrap_or(u32::MAX))
+    }
+
+    pub(crate) fn tariff(&mut self) -> Option<Tariff> {
+        Some(Tariff {
+            rate: self.argument()?,
+            least: self.argument()?,
+            greatest: self.argument()?,
+        })
+    }
+
+    // All others as words; none also where the room is too small. They are counted by hand, since the library collects
+    // only into memory that it takes.
+    pub(crate) fn words<'r>(self, room: &'r mut [u32]) -> Option<&'r [u32]> {
+        let mut count = 0;
+        for field in self.rest.split(|byte| *byte == b' ').skip(1) {
+            *room.get_mut(count)? = word(field)?;
+            count += 1;
         }
+        Some(&room[..count])
     }
-    Number::Is(value)
-}
 
-// The place of the first space from a place on, or the end.
-pub(crate) fn field_end(text: &[u8], from: usize) -> usize
-    requires { from ≤ length text.now }
-    ensures { (from ≤ result) × (result ≤ length text.now) }
-{
-    for at in from..text.len() {
-        if text[at] == b' ' {
-            return at;
-        }
+    // There are no others.
+    pub(crate) fn end(self) -> Option<()> {
+        self.rest.is_empty().then_some(())
     }
-    text.len()
-}
-
-// A decimal number that stands first in a text, after a space, and the place behind it.
-#[derive(Clone, Copy)]
-pub(crate) struct First {
-    pub number: Number,
-    pub end: usize,
-}
-
-pub(crate) fn first_number(text: &[u8]) -> First
-    ensures { result.end ≤ length text.now }
-{
-    if text.len() == 0 {
-        return First {
-            number: Number::Unreadable,
-            end: 0,
-        };
-    }
-    let end = field_end(text, 1);
-    let number = spelled(&text[1..end], false);
-    First { number, end }
-}
-
-// Whether the numbers that should stand first in a text are there, and the place behind them.
-#[derive(Clone, Copy)]
-pub(crate) struct Lead {
-    pub readable: bool,
-    pub end: usize,
-}
-
-// Reads so many decimal numbers that stand first in a text, five at most.
-pub(crate) fn read_numbers(text: &[u8], count: usize, numbers: &mut [u64; 5]) -> Lead
-    requires { count ≤ 5 }
-    ensures { result.end ≤ length text.now }
-{
-    let mut end: usize = 0;
-    for i in 0..count {
-        let first = first_number(&text[end..]);
-        let number = first.number;
-        match number {
-            Number::Is(value) => {
-                numbers[i] = value;
-            }
-            Number::Unreadable => {
-                return Lead {
-                    readable: false,
-                    end,
-                };
-            }
-        }
-        end += first.end;
-    }
-    Lead {
-        readable: true,
-        end,
-    }
-}
-
-// Reads the fields of a text in which each stands after a space.
-pub(crate) fn read_fields(text: &[u8], hex: bool, fields: &mut [u64; 16384]) -> Fields {
-    let mut count: usize = 0;
-    let mut at: usize = 0;
-    while at < text.len() {
-        let start = at + 1;
-        let end = field_end(text, start);
-        match spelled(&text[start..end], hex) {
-            Number::Is(value) => {
-                if MOST <= count {
-                    return Fields::Unreadable;
-                }
-                fields[count] = value;
-            }
-            Number::Unreadable => {
-                return Fields::Unreadable;
-            }
-        }
-        count += 1;
-        at = end;
-    }
-    Fields::Count(count)
 }

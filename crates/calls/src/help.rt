@@ -1,5 +1,5 @@
 // What the program says of itself.
-const HELP: &str = "\
+pub(crate) const HELP: &str = "\
 calls < LINES
 
 Answers calls from standard input, a line for each:
@@ -29,8 +29,3 @@ empty line has no answer, and one that makes no sense is unreadable.
 
 docs/RULES.md has the rules and the refusals.
 ";
-
-// Where the help cannot be written, there is nobody to be told.
-pub(crate) fn help(rt: &impl Print) {
-    let _ = rt.print(HELP);
-}

@@ -1,98 +1,49 @@
 // The calls that write into a lent space, printed: the words written, in hexadecimal, with single spaces; where
 // fees are written too, then the word `fees` and the fees, in decimal.
-ghost use Rattle.std.specs.Prelude.{◌≡◌, ◌≤◌, length};
-
-use crate::answers::print_refusal;
-use rules::{SpaceAnswer, Tariff};
+use crate::answers::print;
+use rules::{Refusal, Tariff};
 use std::io;
 use std::io::Write;
 
 // The words that the program has to lend. An opening of 120 orders needs 15,005.
 const WORDS: usize = 16384;
 
-fn all_words() -> [u32; 16384]
-    ensures { 16384 ≡ length result }
-{
-    [0; 16384]
-}
+// The places for fees that the program has to lend. 120 orders need as many.
+const PLACES: usize = 128;
 
-// As many words, or places, of those asked for as there are.
-fn lent(asked: u64, most: usize) -> usize
-    ensures { result ≤ most }
-{
-    if asked < most as u64 {
-        asked as usize
-    } else {
-        most
-    }
-}
-
-fn print_word(out: &mut impl Write, word: u32, first: bool) -> io::Result<()> {
-    if !first {
-        write!(out, " ")?;
-    }
-    write!(out, "{word:08x}")
+// As much of a room as is asked for, or all of it.
+fn lent<T>(room: &mut [T], asked: u64) -> &mut [T] {
+    let most = room.len() as u64;
+    &mut room[..asked.min(most) as usize]
 }
 
 fn print_words(out: &mut impl Write, words: &[u32]) -> io::Result<()> {
     for (i, word) in words.iter().enumerate() {
-        print_word(out, *word, i == 0)?;
+        if 0 < i {
+            write!(out, " ")?;
+        }
+        write!(out, "{word:08x}")?;
     }
     Ok(())
 }
 
-// What a call writes.
-#[derive(Clone, Copy)]
-pub(crate) enum Writes {
-    FirstRound,
-    Opening,
-}
-
-fn written(call: Writes, words: &[u32], space: &mut [u32]) -> SpaceAnswer {
-    match call {
-        Writes::FirstRound => auction::first_round(words, space),
-        Writes::Opening => auction::opening(words, space),
-    }
-}
-
-// The call on a space that is lent.
-fn write_in(
+// A call on a space of so many words.
+pub(crate) fn print_written<F: FnOnce(&mut [u32]) -> Result<usize, Refusal>>(
     out: &mut impl Write,
-    call: Writes,
-    words: &[u32],
-    space: &mut [u32],
-) -> io::Result<()> {
-    match written(call, words, space) {
-        SpaceAnswer::Written(count) => {
-            if count <= space.len() {
-                print_words(out, &space[..count])?;
-                writeln!(out)?;
-            }
-            Ok(())
-        }
-        SpaceAnswer::Refused(refusal) => print_refusal(out, refusal),
-    }
-}
-
-// The call with a space of so many words.
-pub(crate) fn print_written(
-    out: &mut impl Write,
-    call: Writes,
     size: u64,
-    words: &[u32],
-) -> io::Result<()> {
-    let mut space = all_words();
-    let size = lent(size, WORDS);
-    write_in(out, call, words, &mut space[..size])
-}
-
-// The places for fees that the program has to lend. 120 orders need as many.
-const PLACES: usize = 128;
-
-fn all_places() -> [u64; 128]
-    ensures { 128 ≡ length result }
+    call: F,
+) -> io::Result<()>
+    requires { F.IsAlwaysCallable call }
 {
-    [0; 128]
+    let mut room = [0u32; WORDS];
+    let space = lent(&mut room, size);
+    print(out, call(space), |out, count| match space.get(..count) {
+        Some(words) => {
+            print_words(out, words)?;
+            writeln!(out)
+        }
+        None => Ok(()),
+    })
 }
 
 fn print_fees(out: &mut impl Write, fees: &[u64]) -> io::Result<()> {
@@ -103,29 +54,6 @@ fn print_fees(out: &mut impl Write, fees: &[u64]) -> io::Result<()> {
     writeln!(out)
 }
 
-// The opening with fees, on a space and a list that are lent.
-fn charge_in(
-    out: &mut impl Write,
-    tariff: Tariff,
-    words: &[u32],
-    space: &mut [u32],
-    fees: &mut [u64],
-) -> io::Result<()> {
-    match auction::opening_fees(words, tariff, space, fees) {
-        SpaceAnswer::Written(count) => {
-            if count <= space.len() {
-                print_words(out, &space[..count])?;
-            }
-            let orders = sheet::order_count(words);
-            if orders <= fees.len() {
-                print_fees(out, &fees[..orders])?;
-            }
-            Ok(())
-        }
-        SpaceAnswer::Refused(refusal) => print_refusal(out, refusal),
-    }
-}
-
 // The opening with fees, with a space of so many words and a list of so many places.
 pub(crate) fn print_charged(
     out: &mut impl Write,
@@ -134,9 +62,18 @@ pub(crate) fn print_charged(
     places: u64,
     words: &[u32],
 ) -> io::Result<()> {
-    let mut space = all_words();
-    let mut fees = all_places();
-    let size = lent(size, WORDS);
-    let places = lent(places, PLACES);
-    charge_in(out, tariff, words, &mut space[..size], &mut fees[..places])
+    let mut room = [0u32; WORDS];
+    let mut list = [0u64; PLACES];
+    let space = lent(&mut room, size);
+    let fees = lent(&mut list, places);
+    let written = auction::opening_fees(words, tariff, space, fees);
+    print(out, written, |out, count| {
+        if let Some(words) = space.get(..count) {
+            print_words(out, words)?;
+        }
+        match fees.get(..sheet::order_count(words)) {
+            Some(fees) => print_fees(out, fees),
+            None => Ok(()),
+        }
+    })
 }

@@ -24,10 +24,6 @@ pub end_some : (s : Side) (low high : ℕ) → low ≤ high → span_end s low h
 unfolding span_end
 end_some s low high h = rw (le-leb low high h)
 
-pub end_none : (s : Side) (low high : ℕ) → high < low → span_end s low high ≡ none
-unfolding span_end
-end_none s low high h = rw (lt-leb low high h)
-
 module _ {P : ℕ → Bool} {low high : ℕ} (span : Span P low high) (first : 1 ≤ low) (last : high ≤ last_price) where
   inside : (p : ℕ) → low ≤ p → p ≤ high → P p ≡ true
   inside p l h = rw (span.tells p (omega arith, omega arith), le-leb low p l, le-leb p high h)

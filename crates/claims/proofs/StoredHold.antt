@@ -19,14 +19,14 @@ use Rattle.rules.specs.Opening.{opening_words, opening_space}
 use Rattle.rules.specs.Result.{count, round_said_for, round_said}
 use Rattle.rules.specs.Sheet.{sheet_checks, check_sheet, AcceptedSheet}
 use Rattle.rules.specs.Stored.{StoredAnswer, first_difference, answers, differs, unless_different, beside, opening_of, summary_of, stretch_of, on_round, page, open_stored, stored_round, stored_by, stored_answer}
-use Rattle.rules.specs.declared.Difference.{Difference}
-use Rattle.rules.specs.declared.Difference.TheVariants.{Nowhere, At}
+use Rattle.std.specs.declared.option.Option.{Option}
+use Rattle.std.specs.Prelude.{Some, None}
 
 -- ---- Beside an answer
 
-same_found : (d : Difference) → unless_different d (gives []) ≡ answers (gives []) → d ≡ Nowhere
-same_found Nowhere e = refl
-same_found (At place) e = cc
+same_found : (d : Option ℕ) → unless_different d (gives []) ≡ answers (gives []) → d ≡ None
+same_found None e = refl
+same_found (Some place) e = cc
 
 -- only what the opening gives opens beside its answer
 given_beside : (a : Answer) (stored : List ℕ) → beside a stored (gives []) ≡ answers (gives []) → a ≡ gives stored
@@ -43,18 +43,18 @@ where_opened (answers (gives vs)) a = answers a
 where_opened (answers (refuses n k)) a = answers (refuses n k)
 where_opened (differs place) a = differs place
 
-unless_where : (d : Difference) (a : Answer) → where_opened (unless_different d (gives [])) a ≡ unless_different d a
-unless_where Nowhere a = refl
-unless_where (At place) a = refl
+unless_where : (d : Option ℕ) (a : Answer) → where_opened (unless_different d (gives [])) a ≡ unless_different d a
+unless_where None a = refl
+unless_where (Some place) a = refl
 
 beside_where : (o : Answer) (stored : List ℕ) (a : Answer) → where_opened (beside o stored (gives [])) a ≡ beside o stored a
 beside_where (gives words) stored a = unless_where (first_difference stored words) a
 beside_where (refuses n k) stored a = refl
 
 -- a difference is at most at the end of the stored words
-different_found : (d : Difference) {p : ℕ} → unless_different d (gives []) ≡ differs p → d ≡ At p
-different_found Nowhere e = cc
-different_found (At place) e = cc
+different_found : (d : Option ℕ) {p : ℕ} → unless_different d (gives []) ≡ differs p → d ≡ Some p
+different_found None e = cc
+different_found (Some place) e = cc
 
 different_beside : (a : Answer) (stored : List ℕ) {p : ℕ} → beside a stored (gives []) ≡ differs p → p ≤ length stored
 different_beside (gives words) stored e = difference_within stored words (different_found (first_difference stored words) e)

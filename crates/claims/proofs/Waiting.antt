@@ -22,6 +22,8 @@ use Rattle.rules.specs.Grid.{on_grid, last_price}
 use Rattle.rules.specs.Waiting.{last_second, is_second, waiting_word, clock_at_start, start_in, after_outside, after_inside, waiting_time, time_is_up, side_in, after_time, after_second, after_word, waiting_checks, followed, waiting_clock}
 use Rattle.rules.specs.Words.{word_of}
 use Rattle.rules.specs.declared.Clock.{Clock}
+use Rattle.rules.specs.declared.Outside.{Outside}
+use Rattle.rules.specs.declared.Outside.TheVariants.{Above, Below}
 use Rattle.rules.specs.declared.Phase.{Phase}
 use Rattle.rules.specs.declared.Phase.TheVariants.{Idle, Waiting}
 use Rattle.rules.specs.declared.Word.{Word}
@@ -69,12 +71,11 @@ widened_stands D H side stands can =
 -- the clock before the first word
 pub sound_start : (D H : ℕ) → band_stands D H ≡ true → SoundClock (clock_at_start D H)
 sound_start D H stands =
-    record { band = stands; today = omega arith; begun = omega arith; apart = omega arith; side = omega arith }
+    record { band = stands; today = omega arith; begun = omega arith; apart = omega arith }
 
-sound_outside : (side : ℕ) (c : Clock) → side ≤ 1 → SoundClock c → SoundClock (after_outside side c)
+sound_outside : (side : Outside) (c : Clock) → SoundClock c → SoundClock (after_outside side c)
 unfolding after_outside
-sound_outside side c known k =
-    record { band = k.band; today = k.today; begun = k.begun; apart = k.apart; side = known }
+sound_outside side c k = record { band = k.band; today = k.today; begun = k.begun; apart = k.apart }
 
 sound_inside : (c : Clock) → SoundClock c → SoundClock (after_inside c)
 unfolding after_inside
@@ -83,7 +84,6 @@ sound_inside c k = record {
   today = k.today;
   begun = le_refl c.second;
   apart = omega (arith, k.apart, k.begun);
-  side = omega arith;
 }
 
 -- a second at which the time is up is 600 or more after the start
@@ -109,11 +109,10 @@ sound_second second c today on can k =
       today = today;
       begun = le_refl second;
       apart = let late = time_up c.phase c.second second up in omega (arith, k.apart, late);
-      side = omega arith;
     })
     (λ _.
     let moved = start_moves c.phase c.second second k.begun on in
-    record { band = k.band; today = today; begun = moved.0; apart = omega (arith, k.apart, moved.1); side = k.side })
+    record { band = k.band; today = today; begun = moved.0; apart = omega (arith, k.apart, moved.1) })
 
 -- a second that is a word of a waiting list is one of the day
 pub second_today : (w : Word) → waiting_word w ≡ true → is_second w ≡ true → w.value ≤ last_second
@@ -136,8 +135,8 @@ sound_word i c w clear k =
     (rw e at (clear_row _ _ (clear_rest _ _ (clear_rest _ _ clear))))
     k)
     (λ _.
-    by_test SoundClock (eqb w.kind 2) (λ _. sound_outside 0 c (omega arith) k)
-    (λ _. by_test SoundClock (eqb w.kind 3) (λ _. sound_outside 1 c (omega arith) k) (λ _. sound_inside c k)))
+    by_test SoundClock (eqb w.kind 2) (λ _. sound_outside Above c k)
+    (λ _. by_test SoundClock (eqb w.kind 3) (λ _. sound_outside Below c k) (λ _. sound_inside c k)))
 
 -- ---- The whole list
 

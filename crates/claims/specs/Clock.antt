@@ -1,7 +1,7 @@
 -- What is known of a clock between two words of a waiting list; it claims nothing. Serves [13.10].
 use Rattle.std.specs.Prelude.{true, ◌≡◌, ◌*◌, ◌≤◌}
 use Rattle.rules.specs.Band.{band_stands}
-use Rattle.rules.specs.Waiting.{last_second, start_in, waiting_time, side_in}
+use Rattle.rules.specs.Waiting.{last_second, start_in, waiting_time}
 use Rattle.rules.specs.declared.Clock.{Clock}
 
 -- The band stands, the latest second is one of the day, and the openings due took at least 600 seconds each, all before the start of
@@ -11,4 +11,3 @@ pub record SoundClock (c : Clock) : Type 0 where
   pub today : c.second ≤ last_second
   pub begun : start_in c.phase c.second ≤ c.second
   pub apart : waiting_time * c.due ≤ start_in c.phase c.second
-  pub side : side_in c.phase ≤ 1

@@ -1,9 +1,9 @@
 -- What a round must be to have room in its result words, and an answer in its space; no claim. Serves [7.8] and [7.11].
-use Rattle.std.specs.Prelude.{ℕ, ◌≤◌, ◌<◌, length}
+use Rattle.std.specs.Prelude.{ℕ, ◌≤◌, ◌<◌, length, Ok, Err}
+use Rattle.std.specs.declared.result.Result.{Result}
 use Rattle.rules.specs.Fills.{fill_of}
 use Rattle.rules.specs.Opening.{Round}
-use Rattle.rules.specs.declared.SpaceAnswer.{SpaceAnswer}
-use Rattle.rules.specs.declared.SpaceAnswer.TheVariants.{Written, Refused}
+use Rattle.rules.specs.declared.Refusal.{Refusal}
 
 -- Each value of a round fits the low 28 bits of a word.
 pub record FitsWords (r : Round) : Type 0 where
@@ -14,6 +14,6 @@ pub record FitsWords (r : Round) : Type 0 where
   pub fills : (k : ℕ) → k < length r.fills → fill_of r.fills k < 0x1000_0000
 
 -- No more words are written than the space has.
-abbrev pub Within : SpaceAnswer → ℕ → Type 0
-Within (Written count) words = count ≤ words
-Within (Refused r) words = Unit {0}
+abbrev pub Within : Result ℕ Refusal → ℕ → Type 0
+Within (Ok count) words = count ≤ words
+Within (Err r) words = Unit {0}

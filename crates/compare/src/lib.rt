@@ -1,13 +1,13 @@
-// What every part of the engine asks of numbers, prices, sides and places.
+// What several parts of the engine ask of prices, sides and places.
 #![tactic(auto)]
 
-ghost use Rattle.std.specs.Prelude.{◌≡◌, ◌≤◌, max, min};
+ghost use Rattle.std.specs.Prelude.{◌≡◌, min};
 ghost use Rattle.rules.specs.AuctionPrice.{in_band, auctioned};
 ghost use Rattle.rules.specs.Fills.{potential_purchase};
 ghost use Rattle.rules.specs.Grid.{moved_into};
-ghost use Rattle.rules.specs.Limits.{same_side, without_limit};
+ghost use Rattle.rules.specs.Limits.{without_limit};
 
-use rules::{Auctioned, Heading, Price, Side, Total};
+use rules::{Auctioned, Heading, Price, Side};
 
 // How many places there are for orders.
 const PLACES: usize = 120;
@@ -16,35 +16,10 @@ const PLACES: usize = 120;
 pub fn placed(count: usize) -> usize
     ensures { result ≡ min count 120 }
 {
-    if count < PLACES { count } else { PLACES }
+    count.min(PLACES)
 }
 
-// A number in 64 bits, in which the pieces of 120 orders have room.
-pub fn wide(number: u32) -> u64
-    ensures { (result ≡ number) × (result ≤ 4294967295) }
-{
-    number as u64
-}
-
-pub fn lesser(a: u32, b: u32) -> u32
-    ensures { result ≡ min a b }
-{
-    if a < b { a } else { b }
-}
-
-pub fn greater(a: u32, b: u32) -> u32
-    ensures { result ≡ max a b }
-{
-    if a < b { b } else { a }
-}
-
-pub fn smaller(a: Total, b: Total) -> Total
-    ensures { result.0 ≡ min a.0 b.0 }
-{
-    if a.0 < b.0 { a } else { b }
-}
-
-// A price moved into the band.
+// A price moved into the band. The library's `clamp` asks that the bounds do not cross, and nobody is asked that here.
 pub fn moved_into(lower: Price, upper: Price, price: Price) -> Price
     ensures { result.0 ≡ moved_into lower.0 upper.0 price.0 }
 {
@@ -68,25 +43,7 @@ pub fn in_band(heading: Heading, price: Price) -> bool
 pub fn potential_purchase(heading: Heading, auction: Auctioned) -> Price
     ensures { result.0 ≡ potential_purchase heading (auctioned auction) }
 {
-    let lower = heading.lower;
-    let upper = heading.upper;
-    let price = auction.price;
-    moved_into(lower, upper, price)
-}
-
-pub fn same_side(side: Side, other: Side) -> bool
-    ensures { result ≡ same_side side other }
-{
-    match side {
-        Side::Buy => match other {
-            Side::Buy => true,
-            Side::Sell => false,
-        },
-        Side::Sell => match other {
-            Side::Buy => false,
-            Side::Sell => true,
-        },
-    }
+    moved_into(heading.lower, heading.upper, auction.price)
 }
 
 // What is entered for no limit: the upper bound for a buy, the lower one for a sell.

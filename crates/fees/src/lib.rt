@@ -4,10 +4,8 @@
 
 ghost use Rattle.std.specs.Prelude.{true, ◌++◌, ◌≡◌, ◌+◌, ◌*◌, ◌/◌, ◌≤◌, ◌<◌, length, drop};
 ghost use Rattle.rules.specs.Fees as Fees;
-ghost use Rattle.rules.specs.Grid.{moved_into};
 ghost use Rattle.fees.specs.Trades.{trade_at, trade_in, Small, Chargeable, fees_in};
 
-use compare::wide;
 use rules::{Pieces, Price, Tariff, Trade};
 use words::word_of;
 
@@ -20,10 +18,10 @@ const MOST_FEE: u32 = 100000000;
 pub fn tariff_stands(tariff: Tariff) -> bool
     ensures { result ≡ Fees.tariff_stands tariff }
 {
-    (tariff.rate <= MOST_RATE)
-        & (tariff.least <= MOST_FEE)
-        & (tariff.greatest <= MOST_FEE)
-        & (tariff.least <= tariff.greatest)
+    tariff.rate <= MOST_RATE
+        && tariff.least <= MOST_FEE
+        && tariff.greatest <= MOST_FEE
+        && tariff.least <= tariff.greatest
 }
 
 // Clause 8.6: the worth of a trade in hellers.
@@ -31,7 +29,7 @@ fn worth(trade: Trade) -> u64
     requires { Small trade }
     ensures { (result ≡ Fees.worth trade) × (result ≤ 10000000000000) }
 {
-    wide(trade.pieces.0) * wide(trade.purchase.0) * 10
+    u64::from(trade.pieces.0) * u64::from(trade.purchase.0) * 10
 }
 
 // Clause 8.7: so many ten-thousandths of a worth, halves rounded up.
@@ -39,20 +37,7 @@ fn rated(rate: u32, hellers: u64) -> u64
     requires { (rate ≤ 10000) × (hellers ≤ 10000000000000) }
     ensures { result ≡ Fees.rated rate hellers }
 {
-    (hellers * wide(rate) + 5000) / 10000
-}
-
-// A fee raised to the least, or cut to the greatest.
-fn held(least: u64, greatest: u64, fee: u64) -> u64
-    ensures { result ≡ moved_into least greatest fee }
-{
-    if fee < least {
-        least
-    } else if greatest < fee {
-        greatest
-    } else {
-        fee
-    }
+    (hellers * u64::from(rate) + 5000) / 10000
 }
 
 // Clause 8.7: the fee of a fill.
@@ -64,16 +49,16 @@ fn fill_fee(tariff: Tariff, trade: Trade) -> u64
         return 0;
     }
     let fee = rated(tariff.rate, worth(trade));
-    held(wide(tariff.least), wide(tariff.greatest), fee)
+    fee.clamp(u64::from(tariff.least), u64::from(tariff.greatest))
 }
 
-// The trade of an order in the round whose words begin at a place.
-fn trade_at(words: &[u32], at: usize, order: usize) -> Trade
-    requires { (at + (4 + order) < length words.now) × (at ≤ 15005) × (order ≤ 120) }
-    ensures { result ≡ trade_at words.now at order }
+// The trade of an order in a round, from the round's words.
+fn trade_at(round: &[u32], order: usize) -> Trade
+    requires { 4 + order < length round.now }
+    ensures { result ≡ trade_at round.now 0 order }
 {
-    let fill = word_of(words[at + (4 + order)]);
-    let purchase = word_of(words[at + 2]);
+    let fill = word_of(round[4 + order]);
+    let purchase = word_of(round[2]);
     Trade {
         pieces: Pieces(fill.value),
         purchase: Price(purchase.value),
@@ -85,13 +70,9 @@ fn order_fee(tariff: Tariff, count: usize, words: &[u32], order: usize) -> u64
     requires { Chargeable tariff count words.now × (order < count) }
     ensures { result ≡ Fees.order_fee tariff (trade_in count words.now order) (length words.now / (count + 4)) }
 {
-    let size = count + 4;
-    let rounds = words.len() / size;
     let mut fee: u64 = 0;
-    let mut round: usize = 0;
-    while round < rounds {
-        fee += fill_fee(tariff, trade_at(words, round * size, order));
-        round += 1;
+    for round in words.chunks_exact(count + 4) {
+        fee += fill_fee(tariff, trade_at(round, order));
     }
     fee
 }
@@ -101,9 +82,7 @@ pub fn charge(tariff: Tariff, count: usize, words: &[u32], fees: &mut [u64])
     requires { Chargeable tariff count words.now × (count ≤ length fees.old) }
     ensures { fees.new ≡ fees_in tariff count words.now ++ drop count fees.old }
 {
-    let mut order: usize = 0;
-    while order < count {
-        fees[order] = order_fee(tariff, count, words, order);
-        order += 1;
+    for (order, fee) in fees[..count].iter_mut().enumerate() {
+        *fee = order_fee(tariff, count, words, order);
     }
 }

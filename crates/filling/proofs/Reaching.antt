@@ -94,10 +94,6 @@ pub record Down (queue : List ℕ) (orders total i upto : ℕ) : Type 0 where
   pub summed : upto ≡ up_to queue i
   pub reached : total ≤ up_to queue orders → total ≤ up_to queue i
 
-pub down_none : {queue : List ℕ} {orders sum : ℕ} (total : ℕ) → orders ≤ length queue → sum ≡ up_to queue orders
-    → Down queue orders total orders sum
-down_none {queue} {orders} total few e = record { within = few; fewer = le_refl orders; summed = e; reached = λ most. most }
-
 module _ {queue : List ℕ} {orders total i upto : ℕ} (d : Down queue orders total i upto) where
   -- the side offers it
   enough : {h : Heading} {a : Auction} {os : List Standing} {s : Side} → QueueOf h a os s queue → total ≤ up_to queue orders

@@ -2,9 +2,8 @@
 -- above either; so each side may step down to its largest lawful total at or below the other's.
 use mathlib.Core.Bool.{true, ◌&&◌}
 use mathlib.Core.List.{List}
-use mathlib.Core.Path.{◌≡◌}
+use mathlib.Core.Path.{◌≡◌, sym, ◌∙◌}
 use Prim.Native.Nat.{ℕ, ◌≤◌, min}
-use native.Mathlib.Nat.{le_refl}
 use native.Mathlib.Omega.{arith}
 use lib.ListN.{length}
 use Rattle.claims.proofs.Totals.{reaches_none, largest_ok, largest_is}
@@ -19,7 +18,7 @@ use Rattle.rules.specs.declared.Side.{Side}
 use Rattle.rules.specs.declared.Side.TheVariants.{Buy, Sell}
 use Rattle.rules.specs.declared.Standing.{Standing}
 use Rattle.filling.specs.Queues.{QueueOf}
-use Rattle.filling.specs.Reaching.{ReachedFrom}
+use Rattle.filling.specs.Reaching.{WholeOf, ReachedFrom}
 use Rattle.filling.specs.declared.totals.Reached.{Reached}
 
 -- the smaller of what the sides offer
@@ -64,16 +63,17 @@ step_gone : {queue : List ℕ} {orders total : ℕ} {r : Reached} → ReachedFro
 step_gone {queue} f few = gone_by queue (omega (arith, f.fewer)) f.summed
 
 module _ {bids asks : List ℕ} {buy sell : Reached} where
-  pub walk_starts : {wanted offered top : ℕ} → wanted ≡ up_to bids (length bids) → offered ≡ up_to asks (length asks)
-      → top ≡ min wanted offered → ReachedFrom bids (length bids) top buy → ReachedFrom asks (length asks) top sell
-      → Walks bids asks buy sell
-  walk_starts {wanted} {offered} {top} b s e f g = record {
-    bought = step_gone f (le_refl _);
-    sold = step_gone g (le_refl _);
+  pub walk_starts : {wanted asked : Reached} {top : ℕ} → WholeOf bids wanted → WholeOf asks asked → top ≡ min wanted.sum.0 asked.sum.0
+      → ReachedFrom bids wanted.orders top buy → ReachedFrom asks asked.orders top sell → Walks bids asks buy sell
+  walk_starts {wanted} {asked} {top} b s e f g = record {
+    bought = step_gone f (omega (arith, b.long));
+    sold = step_gone g (omega (arith, s.long));
     walking = λ h a os p q.
-        let all : top ≡ most h a os = rw (p.all, q.all, ← b, ← s) e in
-        let enough-bid : top ≤ up_to bids (length bids) = omega arith in
-        let enough-asked : top ≤ up_to asks (length asks) = omega arith in
+        let bid : wanted.sum.0 ≡ offered h a os Buy = b.summed ∙ rw b.long (sym p.all) in
+        let ask : asked.sum.0 ≡ offered h a os Sell = s.summed ∙ rw s.long (sym q.all) in
+        let all : top ≡ most h a os = rw (← bid, ← ask) e in
+        let enough-bid : top ≤ up_to bids wanted.orders = omega (arith, b.summed) in
+        let enough-asked : top ≤ up_to asks asked.orders = omega (arith, s.summed) in
         record {
           buys = step_stands f p enough-bid (omega arith);
           sells = step_stands g q enough-asked (omega arith);

@@ -1,5 +1,5 @@
 -- A total handed out along a side's queue. Serves [6.5].
-use Rattle.std.specs.Prelude.{true, List, ◌≡◌, ℕ, ◌≤◌, ◌<◌, length, take}
+use Rattle.std.specs.Prelude.{true, List, ◌≡◌, ℕ, ◌≤◌, ◌<◌, length}
 use Rattle.claims.specs.Orders.{left, side}
 use Rattle.lines.specs.Lines.{Bounded, LineOf}
 use Rattle.lines.specs.Pieces.{most_pieces, pieces_of}
@@ -19,12 +19,11 @@ pub record Given (h : Heading) (a : Auction) (os : List Standing) (s : Side) (qu
   pub few : length os ≤ most_orders
   pub small : (k : ℕ) → k < length os → left os k ≤ most_pieces
 
--- Where a purchase price is the potential one, the first n entries that a line of side s then has are the side's queue.
-pub record LineQueued (h : Heading) (s : Side) (purchase : ℕ) (old new : List ℕ) (n : ℕ) : Type 0 where
-  pub long : length new ≡ length old
-  pub within : n ≤ length old
-  pub given : (a : Auction) (os : List Standing) → a.situation ≡ 0 → purchase ≡ potential_purchase h a → Bounded h → LineOf s os old
-      → Given h a os s (take n new)
+-- Where a purchase price is the potential one, the line of side s has become the side's queue.
+abbrev pub LineQueued : Heading → Side → ℕ → List ℕ → List ℕ → Type 0
+LineQueued h s purchase old new =
+    (a : Auction) (os : List Standing) → a.situation ≡ 0 → purchase ≡ potential_purchase h a → Bounded h → LineOf s os old
+    → Given h a os s new
 
 -- The orders of the side have their shares, where they had none; all other fills stay.
 pub record HandedTo (h : Heading) (a : Auction) (os : List Standing) (s : Side) (total : ℕ) (before after : List Pieces) : Type 0 where

@@ -10,11 +10,10 @@ ghost use Rattle.rules.specs.declared.Heading.{Heading};
 ghost use Rattle.rules.specs.declared.Side.TheVariants.{Buy, Sell};
 ghost use Rattle.rules.specs.declared.Standing.{Standing};
 ghost use Rattle.filling.specs.Queues.{QueueOf};
-ghost use Rattle.filling.specs.Reaching.{ReachedFrom};
+ghost use Rattle.filling.specs.Reaching.{WholeOf, ReachedFrom};
 
-use compare::smaller;
 use lines::keys::{amount_in, whole_in};
-use lines::line::pieces_at;
+use lines::line::Line;
 use rules::Total;
 
 // A total that a side can lawfully reach, how many orders of its queue may get pieces of it, and the pieces of
@@ -34,60 +33,72 @@ fn splits(entry: u64, upto: Total, total: Total) -> bool
     whole_in(entry) & (total.0 < upto.0)
 }
 
-// The largest total at or below one that a side can lawfully reach, going down from the last order that may
-// get pieces of it.
-fn reached_from(queue: &[u64], orders: usize, sum: Total, total: Total) -> Reached
-    requires { (orders ≤ length queue.now) × (sum.0 ≡ up_to queue.now orders) }
-    ensures { ReachedFrom queue.now orders total.0 result }
-{
-    let mut i = orders;
-    let mut upto = sum;
-    while 0 < i {
-        let entry = queue[i - 1];
-        let before = Total(upto.0 - amount_in(entry));
-        if before.0 < total.0 {
-            if splits(entry, upto, total) {
+impl Reached {
+    // All of a queue.
+    fn whole(queue: &Line) -> Reached
+        ensures { WholeOf queue.now result }
+    {
+        let pieces = queue.pieces_at(0);
+        Reached {
+            total: pieces,
+            orders: queue.len(),
+            sum: pieces,
+        }
+    }
+
+    // The largest total at or below one that a side can lawfully reach, going down from the last order that may
+    // get pieces of it.
+    fn lowered(self, queue: &Line, total: Total) -> Reached
+        requires { (self.orders ≤ length queue.now) × (self.sum.0 ≡ up_to queue.now self.orders) }
+        ensures { ReachedFrom queue.now self.orders total.0 result }
+    {
+        let mut upto = self.sum;
+        for i in (0..self.orders).rev() {
+            let entry = queue[i];
+            let before = Total(upto.0 - amount_in(entry));
+            if before.0 < total.0 {
+                if splits(entry, upto, total) {
+                    return Reached {
+                        total: before,
+                        orders: i,
+                        sum: before,
+                    };
+                }
                 return Reached {
-                    total: before,
-                    orders: i - 1,
-                    sum: before,
+                    total,
+                    orders: i + 1,
+                    sum: upto,
                 };
             }
-            return Reached {
-                total,
-                orders: i,
-                sum: upto,
-            };
+            upto = before;
         }
-        upto = before;
-        i -= 1;
-    }
-    Reached {
-        total,
-        orders: 0,
-        sum: upto,
+        Reached {
+            total,
+            orders: 0,
+            sum: upto,
+        }
     }
 }
 
 // The largest total within lawful reach of both sides. The outer loop steps down the lawful buy totals, the
-// inner one the lawful sell totals.
-pub(crate) fn common_total(bids: &[u64], asks: &[u64]) -> Total
-    requires { (length bids.now ≤ 120) × (length asks.now ≤ 120) }
+// inner one the lawful sell totals. Two nested loops left by a label are a form that the project asks for
+// (docs/DECISIONS.md, Language forms).
+pub(crate) fn common_total(bids: &Line, asks: &Line) -> Total
     ensures { (h : Heading) (a : Auction) (os : List Standing) → QueueOf h a os Buy bids.now → QueueOf h a os Sell asks.now → result.0 ≡ largest_total h a os }
 {
-    let wanted = pieces_at(bids, 0);
-    let offered = pieces_at(asks, 0);
-    let most = smaller(wanted, offered);
-    let mut buy = reached_from(bids, bids.len(), wanted, most);
-    let mut sell = reached_from(asks, asks.len(), offered, most);
+    let wanted = Reached::whole(bids);
+    let offered = Reached::whole(asks);
+    let most = Total(wanted.sum.0.min(offered.sum.0));
+    let mut buy = wanted.lowered(bids, most);
+    let mut sell = offered.lowered(asks, most);
     'walk: loop {
         while buy.total.0 <= sell.total.0 {
             if sell.total.0 == buy.total.0 {
                 break 'walk;
             }
-            sell = reached_from(asks, sell.orders, sell.sum, buy.total);
+            sell = sell.lowered(asks, buy.total);
         }
-        buy = reached_from(bids, buy.orders, buy.sum, sell.total);
+        buy = buy.lowered(bids, sell.total);
     }
     buy.total
 }

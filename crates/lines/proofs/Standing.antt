@@ -8,7 +8,6 @@ use Prim.Native.Nat.{ℕ, suc, ◌≤◌, ◌<◌, zero-le}
 use native.Mathlib.Nat.{le_refl, le_trans}
 use native.Mathlib.Omega.{arith}
 use lib.Dec.{leb}
-use lib.ListN.{length}
 use borrow.Author.Tests.{le-leb, lt-leb}
 use Rattle.claims.proofs.PiecePlaces.{piece_place_is}
 use Rattle.claims.specs.Places.{piece_place}
@@ -20,7 +19,7 @@ use Rattle.rules.specs.Grid.{last_price}
 use Rattle.rules.specs.Lists.{sum_to}
 use Rattle.sorting.specs.Sorted.{item}
 use Rattle.lines.specs.Keys.{place_in}
-use Rattle.lines.specs.Lines.{Kept, place_at, up_to, held_at, Stands}
+use Rattle.lines.specs.Lines.{Kept, place_at, Stands}
 
 -- ---- How far a side reaches
 
@@ -99,9 +98,3 @@ module _ {entry_of : ℕ → ℕ} {m n : ℕ} {xs : List ℕ} (q : Kept entry_of
     where
       all : (p : ℕ) → OnGrid p → F p ≡ sum_to (λ j. adds w p (item xs j)) n
       all p on = told p on ∙ sym (q.kept (adds w p) (adds_nothing w p on.0))
-
--- ---- The pieces of a line
-
--- at place 0 all of them stand
-pub held_all : (line : List ℕ) → held_at line 0 ≡ up_to line (length line)
-held_all line = sum_same _ _ (length line) (λ j l. rw (le-leb 0 (place_at line j) zero-le))

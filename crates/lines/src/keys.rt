@@ -1,12 +1,12 @@
 // An order's key on its side: the place of its limit, basic before all-or-none, the lower number first, so that
 // the larger key goes first. Places are counted from the side's worst price on. An entry is a key and an amount
-// below it in one number: in a line the order's pieces, in the book one more than a Stepper ignores.
+// below it in one number: in a line the order's pieces, in the book one more than a Stepper ignores. Places and entries
+// have no types of their own: they are compared, added and cut as numbers, and each such line would take the number out.
 ghost use Rattle.std.specs.Prelude.{cond, ◌≡◌, ◌≤◌, ◌<◌};
 ghost use Rattle.claims.specs.Places.{place_of};
 ghost use Rattle.rules.specs.Grid.{nth};
 ghost use Rattle.lines.specs.Keys.{room, most_places, entry_at, place_in, number_in, whole_in, amount_in, with_amount, at_place};
 
-use compare::{greater, lesser};
 use rules::{LAST_PRICE, Price, Side};
 
 // What an amount has room in: any 32-bit number, and one more.
@@ -20,8 +20,8 @@ pub fn place_of(side: Side, limit: Price) -> u32
     ensures { result ≡ place_of side limit.0 }
 {
     match side {
-        Side::Buy => lesser(limit.0, LAST_PRICE),
-        Side::Sell => LAST_PRICE + 1 - lesser(greater(limit.0, 1), LAST_PRICE + 1),
+        Side::Buy => limit.0.min(LAST_PRICE),
+        Side::Sell => LAST_PRICE + 1 - limit.0.max(1).min(LAST_PRICE + 1),
     }
 }
 
@@ -31,7 +31,7 @@ pub fn price_at(side: Side, place: u32) -> Price
 {
     match side {
         Side::Buy => Price(place),
-        Side::Sell => Price(LAST_PRICE + 1 - lesser(place, LAST_PRICE + 1)),
+        Side::Sell => Price(LAST_PRICE + 1 - place.min(LAST_PRICE + 1)),
     }
 }
 
@@ -47,7 +47,7 @@ pub fn entry(place: u32, all_or_none: bool, number: usize, amount: u64) -> u64
     requires { (place < most_places) × (number < 120) × (amount < room) }
     ensures { result ≡ entry_at place all_or_none number amount }
 {
-    let key = (place as u64 * 2 + basic_first(all_or_none)) * 128 + (127 - number as u64);
+    let key = (u64::from(place) * 2 + basic_first(all_or_none)) * 128 + (127 - number as u64);
     key * ROOM + amount
 }
 
@@ -60,8 +60,7 @@ pub fn place_in(entry: u64) -> u32
 pub fn number_in(entry: u64) -> usize
     ensures { (result ≡ number_in entry) × (result ≤ 119) }
 {
-    let number = 127 - (entry / ROOM % 128) as usize;
-    if number < 119 { number } else { 119 }
+    (127 - (entry / ROOM % 128) as usize).min(119)
 }
 
 pub fn whole_in(entry: u64) -> bool
@@ -89,5 +88,5 @@ pub fn at_place(entry: u64, place: u32) -> u64
     requires { place < most_places }
     ensures { result ≡ at_place entry place }
 {
-    place as u64 * PLACE_ROOM + entry % PLACE_ROOM
+    u64::from(place) * PLACE_ROOM + entry % PLACE_ROOM
 }

@@ -3,11 +3,7 @@
 // nothing and says what it does.
 #![tactic(auto)]
 
-ghost use Rattle.std.specs.Prelude.{◌≤◌, length};
-
-use std::env::FillError;
-use std::io::{ErrorKind, Read};
-use std::rt::Env;
+use host::{is_given, print_help, read_full, write_out};
 
 const HELP: &str = "\
 opening < SHEET
@@ -20,47 +16,23 @@ refusal, and the number of the order at fault, or 0.
 docs/READING.md explains the words, docs/RULES.md the rules and the refusals.
 ";
 
-// Whether the program was started with an argument behind its name.
-fn has_argument(env: &impl Env) -> bool {
-    !matches!(env.arg(1, &mut []), Err(FillError::NotPresent))
-}
-
-// Reads until the bytes are full, the input ends or a read fails, and answers how many were read. A read that a
-// signal cut short is tried again.
-fn read_full(input: &mut impl Read, bytes: &mut [u8]) -> usize
-    ensures { result ≤ length bytes.new }
-{
-    let mut count = 0;
-    for _ in 0..u64::MAX {
-        match input.read(&mut bytes[count..]) {
-            Ok(0) => break,
-            Ok(more) => count += more,
-            Err(error) if error.kind() == ErrorKind::Interrupted => {}
-            Err(_) => break,
-        }
-    }
-    count
-}
-
 fn print_opening(rt: &(impl Input + Print + Eprint)) {
     // One byte more than a sheet may have, so that input that is too long shows.
     let mut input = [0u8; text::MOST_BYTES + 1];
-    let read = read_full(&mut rt.reader(), &mut input);
+    // A read that fails counts as the end.
+    let read = read_full(&mut rt.reader(), &mut input).unwrap_or_else(|cut| cut.count);
     let mut out = [0u8; 135045];
     let count = text::opening_text(&input[..read], &mut out);
-    if rt.write_all(&out[..count]).is_err() {
-        let _ = rt.eprintln("opening: not all of the result was written");
-    }
-}
-
-// Where the help cannot be written, there is nobody to be told.
-fn help(rt: &impl Print) {
-    let _ = rt.print(HELP);
+    write_out(
+        rt,
+        &out[..count],
+        "opening: not all of the result was written",
+    );
 }
 
 fn main(rt: HostRuntime) {
-    if has_argument(&rt) {
-        help(&rt);
+    if is_given(&rt, 1) {
+        print_help(&rt, HELP);
     } else {
         print_opening(&rt);
     }

@@ -17,10 +17,9 @@ use Rattle.rules.specs.Listing.{input_fits, sheet_in, refusal_line}
 use Rattle.rules.specs.Pages.{most_listed, listing_fits, archived_beside, archived}
 use Rattle.rules.specs.Result.{count, rounds_for}
 use Rattle.rules.specs.Sheet.{check_sheet}
-use Rattle.rules.specs.declared.Heading.{Heading}
-use Rattle.rules.specs.declared.Order.{Order}
+use Rattle.rules.specs.declared.Sheet.{Sheet}
 use Rattle.run.proofs.Accepted.{count-is}
-use Rattle.run.specs.Accepted.{AcceptedAs}
+use Rattle.sheet.specs.Reading.{AcceptedAs}
 
 module _ (bytes text : List ℕ) where
   pub bytes_refused : input_fits bytes ≡ false → archived bytes text ≡ refusal_line 12 0
@@ -49,8 +48,8 @@ pub record Roomy (n : ℕ) (rs : List ℕ) : Type 0 where
   pub rounds : rounds_for n rs ≤ 121
   pub last : rounds_for n rs * (n + 4) < length rs
 
-pub opened_roomy : {ws stored : List ℕ} {h : Heading} {orders : List Order} → AcceptedAs ws h orders → OpensBeside ws stored → Roomy h.count stored
-opened_roomy {ws} {stored} {h} a opens =
+pub opened_roomy : {ws stored : List ℕ} {s : Sheet} → AcceptedAs ws s → OpensBeside ws stored → Roomy s.heading.count stored
+opened_roomy {ws} {stored} a opens =
     let claim = (read_as_said ws stored opens).demand3 in
     let few : count ws ≤ 120 = (accepted_sound ws a.passes).heading.count in
     rw (count-is a) (record { orders = few; rounds = omega (arith, few, claim.most); last = omega (arith, claim.size) })

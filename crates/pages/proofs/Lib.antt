@@ -1,5 +1,4 @@
 -- Laws of the pages, for the proofs of the functions.
-pub mod Appending
 pub mod Joining
 pub mod Telling
 pub mod Reported

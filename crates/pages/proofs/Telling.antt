@@ -1,7 +1,7 @@
 -- A round that is there has a page, which tells of the round that the rules read, and fill words whose values are the round's fills: so
 -- the lines put from these are the round's.
 use mathlib.Core.List.{List}
-use mathlib.Core.Path.{◌≡◌, sym, ap, ◌∙◌}
+use mathlib.Core.Path.{◌≡◌, refl, sym, ap, ◌∙◌}
 use Prim.Native.Nat.{ℕ, ◌+◌, ◌<◌}
 use native.Mathlib.Omega.{arith}
 use lib.ListN.{length, take, drop, length-drop, get_or-map}
@@ -16,14 +16,17 @@ use Rattle.rules.specs.Result.{rounds_for, word_place_for, round_said_for}
 use Rattle.rules.specs.Stored.{summary_of, page, page_answer, summary_numbers}
 use Rattle.rules.specs.Words.{word_of, word_at}
 use Rattle.rules.specs.declared.Order.{Order}
-use Rattle.rules.specs.declared.PageAnswer.{PageAnswer}
-use Rattle.rules.specs.declared.PageAnswer.TheVariants.{Says, Refused}
 use Rattle.rules.specs.declared.Refusal.{Refusal}
 use Rattle.rules.specs.declared.Summary.{Summary}
+use Rattle.std.specs.Result.{IsOk}
+use Rattle.std.specs.declared.result.Result.{Result}
+use Rattle.std.specs.declared.result.Result.TheVariants.{Ok, Err}
 use Rattle.stored.proofs.Views.{stretch_values}
 use Rattle.stored.specs.Views.{fills_from, fills_count}
-use Rattle.pages.proofs.Appending.{append_then}
-use Rattle.pages.specs.Steps.{Appends, told, line_from, fills_in, round_from}
+use Rattle.text.proofs.Writing.{◌then◌}
+use Rattle.text.specs.Writing.{Puts}
+use Rattle.text.specs.declared.writer.Writer.{Writer}
+use Rattle.pages.specs.Steps.{told, line_from, fills_in, round_from}
 
 -- the fill that one word says
 pub fill_at : (fills : List ℕ) (k : ℕ) → (word_at fills k).value ≡ fill_of (fills_in fills) k
@@ -32,17 +35,18 @@ fill_at fills k = sym (get_or-map (λ w. (word_of w).value) fills k 0)
 module _ (n : ℕ) (rs : List ℕ) (r : ℕ) (there : r < rounds_for n rs) where
   -- ---- The page
 
-  page_gives : (a : PageAnswer) → page_answer a ≡ page n rs r → page_answer a ≡ gives (summary_of (round_said_for n rs r))
+  page_gives : (a : Result Summary Refusal) → page_answer a ≡ page n rs r → page_answer a ≡ gives (summary_of (round_said_for n rs r))
   unfolding page
   page_gives a paged = paged ∙ round_there n rs r _ there
 
-  pub page_says : {a : PageAnswer} {f : Refusal} → a ≡ Refused f → page_answer a ≡ page n rs r → ⊥
-  page_says {a} {f} none paged =
-      let e : refused f ≡ gives (summary_of (round_said_for n rs r)) = rw none at (page_gives a paged) in
+  pub page_had : (a : Result Summary Refusal) → page_answer a ≡ page n rs r → IsOk a
+  page_had (Ok s) paged = refl
+  page_had (Err f) paged =
+      let e : refused f ≡ gives (summary_of (round_said_for n rs r)) = page_gives (Err f) paged in
       let z : ◌≡◌ {A = ℕ} 0 1 = cc in
-      omega arith
+      absurd (omega arith)
 
-  page_tells : {a : PageAnswer} {s : Summary} → a ≡ Says s → page_answer a ≡ page n rs r
+  page_tells : {a : Result Summary Refusal} {s : Summary} → a ≡ Ok s → page_answer a ≡ page n rs r
       → summary_text r (told s) ≡ summary_text r (round_said_for n rs r)
   unfolding summary_text
   page_tells {a} {s} is paged =
@@ -69,9 +73,9 @@ module _ (n : ℕ) (rs : List ℕ) (r : ℕ) (there : r < rounds_for n rs) where
 
     -- ---- Both
 
-    pub round_told : {a : PageAnswer} {s : Summary} → a ≡ Says s → page_answer a ≡ page n rs r
-        → (orders : List Order) {m k : ℕ} {before mid after : List ℕ} {at end last : ℕ} → Appends m (summary_text r (told s)) before mid at end
-        → Appends k (joined_to (line_from orders (fills_in fills)) (length fills)) mid after end last
-        → Appends (m + k) (round_from n orders rs r) before after at last
+    pub round_told : {a : Result Summary Refusal} {s : Summary} → a ≡ Ok s → page_answer a ≡ page n rs r
+        → (orders : List Order) {m k : ℕ} {before mid after : Writer} → Puts m (summary_text r (told s)) before mid
+        → Puts k (joined_to (line_from orders (fills_in fills)) (length fills)) mid after
+        → Puts (m + k) (round_from n orders rs r) before after
     unfolding round_from
-    round_told is paged orders p q = append_then (rw (page_tells is paged) at p) (rw (lines_told orders) at q)
+    round_told is paged orders p q = rw (page_tells is paged) at p then rw (lines_told orders) at q

@@ -1,5 +1,5 @@
 -- What the functions of this crate hand to each other. Serves [11.7]–[11.10].
-use Rattle.std.specs.Prelude.{List, [], ◌++◌, map, ◌≡◌, ℕ, ◌+◌, ◌≤◌, length, take, drop}
+use Rattle.std.specs.Prelude.{List, [], ◌++◌, map, ℕ}
 use Rattle.rules.specs.Fills.{fill_of}
 use Rattle.rules.specs.Limits.{filed}
 use Rattle.rules.specs.Lists.{joined_to}
@@ -9,18 +9,6 @@ use Rattle.rules.specs.Result.{round_said_for}
 use Rattle.rules.specs.Words.{word_of}
 use Rattle.rules.specs.declared.Order.{Order}
 use Rattle.rules.specs.declared.Summary.{Summary}
-
--- ---- A text in a lent space
-
--- A text of at most so many bytes, from a place of a lent space on: where it ends, and what the space held before and holds after.
-pub record Appends (most : ℕ) (text before after : List ℕ) (at end : ℕ) : Type 0 where
-  pub ends : end ≡ at + length text
-  pub small : end ≤ at + most
-  pub room : end ≤ length before
-  -- in front of the text and behind it the space keeps its content
-  pub holds : after ≡ take at before ++ (text ++ drop end before)
-
--- ---- A round
 
 -- The round that a page tells of, but for its fills.
 abbrev pub told : Summary → Round

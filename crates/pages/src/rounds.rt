@@ -1,177 +1,146 @@
-// Clauses 11.7–11.10: what is said of a stored result. As in `phrases`, each text goes behind the one before. Each
-// function asks for room for the longest text that it may put, in which each number has 20 figures.
+// Clauses 11.7–11.10: what is said of a stored result. Each function asks for room for the longest text that it may
+// put, in which each number has 20 figures.
 ghost use Rattle.std.specs.Prelude.{List, ◌≡◌, ℕ, ◌+◌, ◌*◌, ◌/◌, ◌≤◌, ◌<◌, length};
-ghost use Rattle.pages.specs.Steps.{Appends, told, line_from, fills_in, round_from};
-ghost use Rattle.rules.specs.Listing.{InFront};
+ghost use Rattle.pages.specs.Steps.{told, line_from, fills_in, round_from};
 ghost use Rattle.rules.specs.Lists.{joined_to};
 ghost use Rattle.rules.specs.Pages.{price_text, purchase_text, situation_means, trades, order_line, summary_text, ending_means, head_text, opened_text, different_text, no_listing};
 ghost use Rattle.rules.specs.Result.{rounds_for, word_place_for};
 ghost use Rattle.rules.specs.Words.{word_at};
-ghost use Rattle.run.specs.Accepted.{AcceptedAs};
+ghost use Rattle.sheet.specs.Reading.{AcceptedAs};
+ghost use Rattle.text.specs.Writing.{HasRoom, Puts};
 
-use crate::phrases::{number, put, put_number};
-use rules::{Heading, Order, PageAnswer, Price, Side, Summary};
+use rules::{Heading, Order, Price, Sheet, Side, Summary};
 use stored::rounds::{fills_at, page_at, rounds_in};
+use text::writer::Writer;
 use words::word_of;
 
 // A price, in tens of hellers and in crowns.
-fn price(p: Price, at: usize, out: &mut [u8]) -> usize
-    requires { at + 80 ≤ length out.old }
-    ensures { Appends 80 (price_text p.0) out.old out.new at result }
+fn price(p: Price, out: &mut Writer<'_>)
+    requires { HasRoom 80 out.old }
+    ensures { Puts 80 (price_text p.0) out.old out.new }
 {
-    let tens = p.0;
-    let mut end = number(tens as u64, at, out);
-    end = put_number(b", or ", (tens / 10) as u64, end, out);
-    end = put_number(b".", (tens % 10) as u64, end, out);
-    put(b"0 crowns.\n", end, out)
+    let tens = u64::from(p.0);
+    out.number(tens);
+    out.put(b", or ");
+    out.number(tens / 10);
+    out.put(b".");
+    out.number(tens % 10);
+    out.put(b"0 crowns.\n");
 }
 
 // The purchase price, or that there is none.
-fn purchase(p: Price, at: usize, out: &mut [u8]) -> usize
-    requires { at + 100 ≤ length out.old }
-    ensures { Appends 100 (purchase_text p.0) out.old out.new at result }
+fn purchase(p: Price, out: &mut Writer<'_>)
+    requires { HasRoom 100 out.old }
+    ensures { Puts 100 (purchase_text p.0) out.old out.new }
 {
-    let end = put(b"Purchase price: ", at, out);
+    out.put(b"Purchase price: ");
     if p.0 == 0 {
-        return put(b"none.\n", end, out);
+        out.put(b"none.\n");
+    } else {
+        price(p, out);
     }
-    price(p, end, out)
 }
 
-// What a situation is.
-fn situation(s: u32, at: usize, out: &mut [u8]) -> usize
-    requires { at + 60 ≤ length out.old }
-    ensures { Appends 60 (situation_means s) out.old out.new at result }
+// What a situation is, by its number: `situation_means` speaks of any number that a stored word says.
+fn situation(s: u32, out: &mut Writer<'_>)
+    requires { HasRoom 60 out.old }
+    ensures { Puts 60 (situation_means s) out.old out.new }
 {
     match s {
-        0 => put(b": demand and supply meet at some price.\n", at, out),
-        1 => put(b": the band has supply alone.\n", at, out),
-        2 => put(b": the band has demand alone.\n", at, out),
-        3 => put(
-            b": the band has demand and supply, but at no price both.\n",
-            at,
-            out,
-        ),
-        _ => put(b": the band has neither demand nor supply.\n", at, out),
+        0 => out.put(b": demand and supply meet at some price.\n"),
+        1 => out.put(b": the band has supply alone.\n"),
+        2 => out.put(b": the band has demand alone.\n"),
+        3 => out.put(b": the band has demand and supply, but at no price both.\n"),
+        _ => out.put(b": the band has neither demand nor supply.\n"),
     }
 }
 
-// What an ending is.
-fn ending(e: u32, at: usize, out: &mut [u8]) -> usize
-    requires { at + 90 ≤ length out.old }
-    ensures { Appends 90 (ending_means e) out.old out.new at result }
+// What an ending is, by its number: `ending_means` likewise.
+fn ending(e: u32, out: &mut Writer<'_>)
+    requires { HasRoom 90 out.old }
+    ensures { Puts 90 (ending_means e) out.old out.new }
 {
     match e {
-        0 => put(
-            b": in the last round demand and supply met at no price.\n",
-            at,
-            out,
-        ),
-        1 => put(
+        0 => out.put(b": in the last round demand and supply met at no price.\n"),
+        1 => out.put(
             b": blocked. The last auction price was in the band, and nothing could be handed out.\n",
-            at,
-            out,
         ),
-        _ => put(
-            b": waiting begins. The last auction price was outside the band.\n",
-            at,
-            out,
-        ),
+        _ => out.put(b": waiting begins. The last auction price was outside the band.\n"),
     }
 }
 
 // Number, situation, prices and total of a round.
-fn summary(r: usize, said: Summary, at: usize, out: &mut [u8]) -> usize
-    requires { at + 400 ≤ length out.old }
-    ensures { Appends 400 (summary_text r (told said)) out.old out.new at result }
+fn summary(r: usize, said: Summary, out: &mut Writer<'_>)
+    requires { HasRoom 400 out.old }
+    ensures { Puts 400 (summary_text r (told said)) out.old out.new }
 {
-    let mut end = put_number(b"\nRound ", r as u64, at, out);
-    end = put_number(b"\nSituation ", said.situation as u64, end, out);
-    end = situation(said.situation, end, out);
-    end = put(b"Auction price: ", end, out);
-    end = price(said.price, end, out);
-    end = purchase(said.purchase, end, out);
-    end = put_number(b"Total: ", said.total.0 as u64, end, out);
-    put(b".\n", end, out)
+    out.put(b"\nRound ");
+    out.number(r as u64);
+    out.put(b"\nSituation ");
+    out.number(u64::from(said.situation));
+    situation(said.situation, out);
+    out.put(b"Auction price: ");
+    price(said.price, out);
+    purchase(said.purchase, out);
+    out.put(b"Total: ");
+    out.number(u64::from(said.total.0));
+    out.put(b".\n");
 }
 
 // What an order of a side does.
-fn trade(side: Side, at: usize, out: &mut [u8]) -> usize
-    requires { at + 7 ≤ length out.old }
-    ensures { Appends 7 (trades side) out.old out.new at result }
+fn trade(side: Side, out: &mut Writer<'_>)
+    requires { HasRoom 7 out.old }
+    ensures { Puts 7 (trades side) out.old out.new }
 {
     match side {
-        Side::Buy => put(b" buys ", at, out),
-        Side::Sell => put(b" sells ", at, out),
+        Side::Buy => out.put(b" buys "),
+        Side::Sell => out.put(b" sells "),
     }
 }
 
 // The line of an order by its number, where it gets pieces.
-fn order(k: usize, side: Side, pieces: u32, at: usize, out: &mut [u8]) -> usize
-    requires { at + 60 ≤ length out.old }
-    ensures { Appends 60 (order_line k side pieces) out.old out.new at result }
+fn order(k: usize, side: Side, pieces: u32, out: &mut Writer<'_>)
+    requires { HasRoom 60 out.old }
+    ensures { Puts 60 (order_line k side pieces) out.old out.new }
 {
-    if pieces == 0 {
-        return at;
+    if pieces != 0 {
+        out.put(b"Order ");
+        out.number(k as u64);
+        trade(side, out);
+        out.number(u64::from(pieces));
+        out.put(b".\n");
     }
-    let mut end = put_number(b"Order ", k as u64, at, out);
-    end = trade(side, end, out);
-    end = number(pieces as u64, end, out);
-    put(b".\n", end, out)
 }
 
 // The lines of the orders in a round, from its fill words.
-fn order_lines(orders: [Order; 120], fills: &[u32], at: usize, out: &mut [u8]) -> usize
-    requires { (length fills.now ≤ 120) × (at + 60 * length fills.now ≤ length out.old) }
-    ensures { Appends (60 * length fills.now) (joined_to (line_from orders (fills_in fills.now)) (length fills.now)) out.old out.new at result }
+fn order_lines(orders: &[Order; 120], fills: &[u32], out: &mut Writer<'_>)
+    requires { (length fills.now ≤ 120) × HasRoom (60 * length fills.now) out.old }
+    ensures { Puts (60 * length fills.now) (joined_to (line_from orders.now (fills_in fills.now)) (length fills.now)) out.old out.new }
 {
-    let mut end = at;
-    let mut k = 0;
-    while k < fills.len() {
-        let filed = orders[k];
-        let side = filed.side;
-        end = order(k, side, word_of(fills[k]).value, end, out);
-        k += 1;
-    }
-    end
-}
-
-// A round of a result of n orders: its page and, behind that, its orders. 7,600 bytes hold 400 for the page and
-// 60 for each of 120 orders.
-fn round(
-    r: usize,
-    n: usize,
-    orders: [Order; 120],
-    stored: &[u32],
-    at: usize,
-    out: &mut [u8],
-) -> usize
-    requires { (r < rounds_for n stored.now) × (n ≤ 120) × (at + 7600 ≤ length out.old) }
-    ensures { Appends 7600 (round_from n orders stored.now r) out.old out.new at result }
-{
-    match page_at(stored, n, r) {
-        PageAnswer::Says(said) => {
-            let end = summary(r, said, at, out);
-            order_lines(orders, fills_at(stored, n, r), end, out)
-        }
-        // A round that is there is not refused.
-        PageAnswer::Refused(_) => at,
+    for (k, fill) in fills.iter().enumerate() {
+        order(k, orders[k].side, word_of(*fill).value, out);
     }
 }
 
-// All rounds of a result of n orders.
-fn rounds(n: usize, orders: [Order; 120], stored: &[u32], at: usize, out: &mut [u8]) -> usize
-    requires { (n ≤ 120) × (at + 7600 * rounds_for n stored.now ≤ length out.old) }
-    ensures { Appends (7600 * rounds_for n stored.now) (joined_to (round_from n orders stored.now) (rounds_for n stored.now)) out.old out.new at result }
+// A round of a result that opens beside a sheet of n orders: its page and, behind that, its orders. 7,600 bytes hold
+// 400 for the page and 60 for each of 120 orders. A round that is there is not refused.
+fn round(sheet: &Sheet, stored: &[u32], r: usize, out: &mut Writer<'_>)
+    requires { (r < rounds_for sheet.now.heading.count stored.now) × (sheet.now.heading.count ≤ 120) × HasRoom 7600 out.old }
+    ensures { Puts 7600 (round_from sheet.now.heading.count sheet.now.orders stored.now r) out.old out.new }
 {
-    let count = rounds_in(stored, n);
-    let mut end = at;
-    let mut r = 0;
-    while r < count {
-        end = round(r, n, orders, stored, end, out);
-        r += 1;
+    let n = sheet.heading.count;
+    summary(r, page_at(stored, n, r).unwrap(), out);
+    order_lines(&sheet.orders, fills_at(stored, n, r), out);
+}
+
+// All rounds of such a result.
+fn rounds(sheet: &Sheet, stored: &[u32], out: &mut Writer<'_>)
+    requires { (sheet.now.heading.count ≤ 120) × HasRoom (7600 * rounds_for sheet.now.heading.count stored.now) out.old }
+    ensures { Puts (7600 * rounds_for sheet.now.heading.count stored.now) (joined_to (round_from sheet.now.heading.count sheet.now.orders stored.now) (rounds_for sheet.now.heading.count stored.now)) out.old out.new }
+{
+    for r in 0..rounds_in(stored, sheet.heading.count) {
+        round(sheet, stored, r, out);
     }
-    end
 }
 
 // The ending, which the last word says above its lower 16 bits.
@@ -184,77 +153,59 @@ fn ending_in(stored: &[u32], n: usize) -> u32
 }
 
 // Before the rounds: how many there are, and of how many orders; and the band.
-fn head(heading: Heading, count: usize, at: usize, out: &mut [u8]) -> usize
-    requires { at + 400 ≤ length out.old }
-    ensures { Appends 400 (head_text heading count) out.old out.new at result }
+fn head(heading: Heading, count: usize, out: &mut Writer<'_>)
+    requires { HasRoom 400 out.old }
+    ensures { Puts 400 (head_text heading count) out.old out.new }
 {
-    let lower = heading.lower.0;
-    let upper = heading.upper.0;
-    let mut end = put_number(
-        b"The stored words are those that the opening of this sheet writes.\nOrders: ",
-        heading.count as u64,
-        at,
-        out,
-    );
-    end = put_number(b". Rounds: ", count as u64, end, out);
-    end = put_number(
-        b". Both are numbered from 0.\nPrices count tens of hellers, and the band is from ",
-        lower as u64,
-        end,
-        out,
-    );
-    end = put_number(b" to ", upper as u64, end, out);
-    put(
+    out.put(b"The stored words are those that the opening of this sheet writes.\nOrders: ");
+    out.number(heading.count as u64);
+    out.put(b". Rounds: ");
+    out.number(count as u64);
+    out.put(b". Both are numbered from 0.\nPrices count tens of hellers, and the band is from ");
+    out.number(u64::from(heading.lower.0));
+    out.put(b" to ");
+    out.number(u64::from(heading.upper.0));
+    out.put(
         b".\nTotals, and what an order buys or sells, are pieces; an order that gets none in a round has no line there.\n",
-        end,
-        out,
-    )
+    );
 }
 
 // The text of a stored result that opens beside its sheet. What is promised is promised of every sheet that reads so.
 // 930,000 bytes hold 7,600 for each of 121 rounds, and what stands around them.
-pub(crate) fn write_opened(
-    heading: Heading,
-    orders: [Order; 120],
-    stored: &[u32],
-    out: &mut [u8],
-) -> usize
-    requires in_bounds { (930000 ≤ length out.old) × (heading.count ≤ 120) }
-    requires stored_bound { (rounds_for heading.count stored.now ≤ 121) × (rounds_for heading.count stored.now * (heading.count + 4) < length stored.now) }
-    ensures { (ws : List ℕ) → AcceptedAs ws heading orders → InFront (opened_text ws stored.now) out.old out.new result }
+pub(crate) fn write_opened(sheet: &Sheet, stored: &[u32], out: &mut Writer<'_>)
+    requires in_bounds { HasRoom 930000 out.old × (sheet.now.heading.count ≤ 120) }
+    requires stored_bound { (rounds_for sheet.now.heading.count stored.now ≤ 121) × (rounds_for sheet.now.heading.count stored.now * (sheet.now.heading.count + 4) < length stored.now) }
+    ensures { (ws : List ℕ) → AcceptedAs ws sheet.now → Puts 930000 (opened_text ws stored.now) out.old out.new }
 {
-    let n = heading.count;
-    let count = rounds_in(stored, n);
+    let n = sheet.heading.count;
     let ended = ending_in(stored, n);
-    let mut end = head(heading, count, 0, out);
-    end = rounds(n, orders, stored, end, out);
-    end = put_number(b"\nEnding ", ended as u64, end, out);
-    ending(ended, end, out)
+    head(sheet.heading, rounds_in(stored, n), out);
+    rounds(sheet, stored, out);
+    out.put(b"\nEnding ");
+    out.number(u64::from(ended));
+    ending(ended, out);
 }
 
 // The text of a stored result whose first difference is at this word.
-pub(crate) fn write_different(place: usize, out: &mut [u8]) -> usize
-    requires { (place ≤ 15005) × (300 ≤ length out.old) }
-    ensures { InFront (different_text place) out.old out.new result }
+pub(crate) fn write_different(place: usize, out: &mut Writer<'_>)
+    requires { (place ≤ 15005) × HasRoom 300 out.old }
+    ensures { Puts 300 (different_text place) out.old out.new }
 {
-    let mut end = put_number(
+    out.put(
         b"The stored words are not those that the opening of this sheet writes by the rules of this edition.\nThe first difference is at word ",
-        place as u64,
-        0,
-        out,
     );
-    end = put_number(b", counted from 0: line ", (place + 1) as u64, end, out);
-    put(b" of the result, or its end.\n", end, out)
+    out.number(place as u64);
+    out.put(b", counted from 0: line ");
+    out.number((place + 1) as u64);
+    out.put(b" of the result, or its end.\n");
 }
 
 // The text for a result that is not as it is printed.
-pub(crate) fn write_no_listing(out: &mut [u8]) -> usize
-    requires { 200 ≤ length out.old }
-    ensures { InFront no_listing out.old out.new result }
+pub(crate) fn write_no_listing(out: &mut Writer<'_>)
+    requires { HasRoom 200 out.old }
+    ensures { Puts 200 no_listing out.old out.new }
 {
-    put(
+    out.put(
         b"The result is not as the opening program prints one: lines of eight digits, 0 to 9 or a to f, each ended by a newline, at most 15005.\n",
-        0,
-        out,
-    )
+    );
 }

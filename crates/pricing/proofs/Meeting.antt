@@ -1,6 +1,6 @@
 -- How far two lines meet. The order that holds piece v has the side's limit of that piece. While the orders that hold the next piece meet,
 -- all their common pieces are carried; where they do not, no more is.
-use mathlib.Core.Bool.{Bool, true, false, cond}
+use mathlib.Core.Bool.{Bool, true, false, cond, ◌&&◌}
 use mathlib.Core.List.{List}
 use mathlib.Core.Logic.{◌⊎◌, inl, inr}
 use mathlib.Core.Path.{◌≡◌, refl, sym, ap, ◌∙◌}
@@ -8,7 +8,9 @@ use Prim.Native.Nat.{ℕ, zero, suc, ◌+◌, ◌-◌, ◌≤◌, ◌<◌, min, 
 use native.Mathlib.Omega.{arith}
 use lib.Dec.{leb, ltb}
 use lib.ListN.{length, get_or-eq_default}
-use borrow.Author.Tests.{leb-true, leb-false, le-leb, lt-leb, ltb-true, ltb-false, lt-ltb}
+use borrow.Author.Tests.{leb-true, leb-false, le-leb, lt-leb, ltb-true, ltb-false, lt-ltb, le-ltb}
+use Rattle.std.specs.Bool.{then_some}
+use Rattle.std.specs.Prelude.{Option, MatchOption}
 use Rattle.claims.proofs.Crossing.{crosses}
 use Rattle.claims.specs.Crossing.{piece_limit, greatest}
 use Rattle.claims.specs.Places.{piece_place}
@@ -18,21 +20,21 @@ use Rattle.lines.proofs.Standing.{held_by, held_by_none}
 use Rattle.lines.proofs.Summing.{sum_none, GoneBy, gone_by}
 use Rattle.lines.specs.Keys.{place_in, amount_in}
 use Rattle.lines.specs.Lines.{LineOf, place_at, up_to}
-use Rattle.rules.proofs.Grid.{both}
 use Rattle.rules.specs.AuctionPrice.{curve}
 use Rattle.rules.specs.Grid.{last_price, nth}
 use Rattle.rules.specs.Lists.{sum_to}
+use Rattle.rules.specs.Sheet.{most_orders}
 use Rattle.rules.specs.declared.Heading.{Heading}
 use Rattle.rules.specs.declared.Side.{Side}
 use Rattle.rules.specs.declared.Side.TheVariants.{Buy, Sell}
 use Rattle.rules.specs.declared.Standing.{Standing}
 use Rattle.sorting.specs.Sorted.{item}
-use Rattle.pricing.specs.Meeting.{meet_at, HoldsPiece, MetAs}
+use Rattle.pricing.specs.Meeting.{meet_at, MeetAs, HoldsPiece, MetAs}
 
 -- ---- The order that holds a piece
 
 -- behind the last order the place is 0
-pub place_none : (line : List ℕ) (i : ℕ) → length line ≤ i → 0 ≡ place_at line i
+place_none : (line : List ℕ) (i : ℕ) → length line ≤ i → 0 ≡ place_at line i
 place_none line i past = sym (ap place_in (get_or-eq_default line 0 past))
 
 module _ {s : Side} {os : List Standing} {line : List ℕ} (q : LineOf s os line) where
@@ -53,9 +55,9 @@ module _ {s : Side} {os : List Standing} {line : List ℕ} (q : LineOf s os line
       go (inl all) = held_by_none (line_stands q) v (rw (← all) at.past) ∙ place_none line i (omega arith)
       go (inr few) = held_by (line_stands q) i v few at.past (at.most few)
 
-  -- the price at the place of the order that holds piece v
-  pub limit_told : {i v place p : ℕ} → HoldsPiece line i v → place ≡ place_at line i → p ≡ nth s place → p ≡ piece_limit os s v
-  limit_told at e f = f ∙ ap (nth s) e ∙ sym (limit_held at)
+  -- the price at its place is that limit
+  pub limit_told : {i v p : ℕ} → HoldsPiece line i v → p ≡ nth s (place_at line i) → p ≡ piece_limit os s v
+  limit_told at e = e ∙ sym (limit_held at)
 
   -- where order i holds the piece after v, and `before` pieces stand before it, piece v is held by it or the order before it
   pub holds_last : {i v before k : ℕ} → HoldsPiece line i (suc v) → (v ≡ 0 → ⊥) → before ≡ up_to line i → k ≡ cond (ltb before v) i (i - 1)
@@ -91,28 +93,28 @@ abbrev pub one_if : Bool → ℕ
 one_if t = cond t 1 0
 
 -- order i, with which its side has c pieces, is passed where the other side has as many, d
-record Step (line : List ℕ) (i before c d x after : ℕ) : Type 0 where
+record Step (line : List ℕ) (i before c d reached after : ℕ) : Type 0 where
   upto : c ≡ before + amount_in (item line i)
-  one : x ≡ one_if (leb c d)
+  order : reached ≡ i + one_if (leb c d)
   sum : after ≡ cond (leb c d) c before
 
 module _ {line : List ℕ} {i before : ℕ} (so : GoneBy line i before) where
-  module _ (few : i < length line) {c d x after : ℕ} (p : Step line i before c d x after) where
+  module _ (few : i < length line) {c d reached after : ℕ} (p : Step line i before c d reached after) where
     -- c counts the pieces up to order i
     next : c ≡ up_to line (suc i)
     unfolding sum_to
     next = omega (arith, p.upto, so.is)
 
-    on : leb c d ≡ true → i + x ≡ suc i
-    on e = let one : x ≡ 1 = p.one ∙ rw e in omega arith
+    on : leb c d ≡ true → reached ≡ suc i
+    on e = let one : reached ≡ i + 1 = p.order ∙ rw e in omega arith
 
-    stays : leb c d ≡ false → i + x ≡ i
-    stays e = let none : x ≡ 0 = p.one ∙ rw e in omega arith
+    stays : leb c d ≡ false → reached ≡ i
+    stays e = let none : reached ≡ i + 0 = p.order ∙ rw e in omega arith
 
-    passed_more : GoneBy line (i + x) after
+    passed_more : GoneBy line reached after
     passed_more = go (leb c d) refl
       where
-        go : (t : Bool) → leb c d ≡ t → GoneBy line (i + x) after
+        go : (t : Bool) → leb c d ≡ t → GoneBy line reached after
         go true e = rw (on e) (gone_by line few (p.sum ∙ rw e next))
         go false e = rw (stays e) (gone_by line so.within (p.sum ∙ rw e so.is))
 
@@ -121,10 +123,10 @@ module _ {line : List ℕ} {i before : ℕ} (so : GoneBy line i before) where
       holds_common : v < w → HoldsPiece line i w
       holds_common more = record { within = at.within; past = omega (arith, at.past); most = λ f. omega (arith, next) }
 
-      holds_more : {s : Side} {os : List Standing} → LineOf s os line → v < w → HoldsPiece line (i + x) (suc w)
+      holds_more : {s : Side} {os : List Standing} → LineOf s os line → v < w → HoldsPiece line reached (suc w)
       holds_more q more = go (leb c d) refl
         where
-          go : (t : Bool) → leb c d ≡ t → HoldsPiece line (i + x) (suc w)
+          go : (t : Bool) → leb c d ≡ t → HoldsPiece line reached (suc w)
           go true e =
               let all : w ≡ c = omega (arith, leb-true c d e) in
               rw (on e)
@@ -144,27 +146,43 @@ module _ {line : List ℕ} {i before : ℕ} (so : GoneBy line i before) where
 -- ---- Two orders that meet
 
 module _ (bids : List ℕ) (i : ℕ) (asks : List ℕ) (j : ℕ) where
-  -- orders i and j are there and meet
-  pub record Both : Type 0 where
-    pub buy : i < length bids
-    pub sell : j < length asks
-    pub cross : last_price < place_at bids i + place_at asks j
-
-  pub both_meet : meet_at bids i asks j ≡ true → Both
+  pub no_bid : length bids ≤ i → meet_at bids i asks j ≡ false
   unfolding meet_at
-  both_meet e =
-      let p = both {a = ltb i (length bids)} e in
-      let q = both {a = ltb j (length asks)} p.1 in
-      record {
-        buy = ltb-true i (length bids) p.0;
-        sell = ltb-true j (length asks) q.0;
-        cross = ltb-true last_price (place_at bids i + place_at asks j) q.1;
+  no_bid past = rw (le-ltb i (length bids) past)
+
+  pub no_ask : length asks ≤ j → meet_at bids i asks j ≡ false
+  unfolding meet_at
+  no_ask past = go (ltb i (length bids))
+    where
+      go : (t : Bool) → (t && (ltb j (length asks) && ltb last_price (place_at bids i + place_at asks j))) ≡ false
+      go true = rw (le-ltb j (length asks) past)
+      go false = refl
+
+  overlap : i < length bids → j < length asks → meet_at bids i asks j ≡ ltb last_price (place_at bids i + place_at asks j)
+  unfolding meet_at
+  overlap buy sell = rw (lt-ltb i (length bids) buy, lt-ltb j (length asks) sell)
+
+  -- the entries of two orders that are there, if their places overlap
+  pub meet_told : i < length bids → j < length asks → length bids ≤ most_orders → length asks ≤ most_orders
+      → {x y : ℕ} → {both : ℕ × ℕ} → both.0 ≡ item bids i → both.1 ≡ item asks j → x ≡ place_in both.0 → y ≡ place_in both.1
+      → {met : Option (ℕ × ℕ)} → met ≡ then_some (ltb last_price (x + y)) both
+      → MatchOption met (meet_at bids i asks j ≡ false) (MeetAs bids i asks j)
+  meet_told buy sell few_bids few_asks {x} {y} {both} bid ask e f {met} g = rw g (go (ltb last_price (x + y)) refl)
+    where
+      sum : x + y ≡ place_at bids i + place_at asks j
+      sum = rw (e, f, bid, ask)
+
+      go : (t : Bool) → ltb last_price (x + y) ≡ t → MatchOption (then_some t both) (meet_at bids i asks j ≡ false) (MeetAs bids i asks j)
+      go true h = record {
+        buy = buy;
+        sell = sell;
+        cross = omega (arith, ltb-true last_price (x + y) h);
+        bid = bid;
+        ask = ask;
+        few_bids = omega arith;
+        few_asks = omega arith;
       }
-
-  pub meets_told : {x y : ℕ} → i < length bids → j < length asks → x ≡ place_at bids i → y ≡ place_at asks j
-      → ltb last_price (x + y) ≡ meet_at bids i asks j
-  unfolding meet_at
-  meets_told buy sell e f = rw (lt-ltb i (length bids) buy, lt-ltb j (length asks) sell, e, f)
+      go false h = overlap buy sell ∙ rw (← sum) h
 
   apart : {os : List Standing} → LineOf Buy os bids → LineOf Sell os asks → meet_at bids i asks j ≡ false
       → place_at bids i + place_at asks j ≤ last_price
@@ -207,14 +225,15 @@ module _ (h : Heading) (os : List Standing) {bids asks : List ℕ} (b : LineOf B
 
 -- ---- The walk over both lines
 
--- of two numbers one is at most the other
-pub one_passed : (c d : ℕ) {x y : ℕ} → x ≡ one_if (leb c d) → y ≡ one_if (leb d c) → 1 ≤ x + y
-one_passed c d {x} {y} e f = go (leb c d) refl (leb d c) refl
+-- of two numbers one is at most the other, so an order is passed
+pub one_passed : (c d i j : ℕ) {x y : ℕ} → x ≡ i + one_if (leb c d) → y ≡ j + one_if (leb d c) → i + j < x + y
+one_passed c d i j {x} {y} e f = go (leb c d) (leb d c) refl refl e f
   where
-    go : (t : Bool) → leb c d ≡ t → (u : Bool) → leb d c ≡ u → 1 ≤ x + y
-    go true g u k = let one : x ≡ 1 = e ∙ rw g in omega arith
-    go false g true k = let one : y ≡ 1 = f ∙ rw k in omega arith
-    go false g false k = absurd (omega (arith, leb-false c d g, leb-false d c k))
+    go : (t u : Bool) → leb c d ≡ t → leb d c ≡ u → x ≡ i + one_if t → y ≡ j + one_if u → i + j < x + y
+    go true true g k a b = omega arith
+    go true false g k a b = omega arith
+    go false true g k a b = omega arith
+    go false false g k a b = absurd (omega (arith, leb-false c d g, leb-false d c k))
 
 -- the walk has come to orders i and j, in every round whose lines these are
 pub record Walked (bids : List ℕ) (i bought : ℕ) (asks : List ℕ) (j sold v : ℕ) : Type 0 where
@@ -226,26 +245,27 @@ pub walked_none : (bids asks : List ℕ) → Walked bids 0 0 asks 0 0 0
 walked_none bids asks = record { buy = sum_none _ _; sell = sum_none _ _; met = λ h os b s. meeting_none h os b s }
 
 module _ {bids : List ℕ} {i bought : ℕ} {asks : List ℕ} {j sold v : ℕ} (k : Walked bids i bought asks j sold v) where
-  pub walked_more : Both bids i asks j → {m n w x y b s : ℕ} → m ≡ amount_in (item bids i) → n ≡ amount_in (item asks j)
-      → w ≡ min (bought + m) (sold + n) → x ≡ one_if (leb (bought + m) (sold + n)) → y ≡ one_if (leb (sold + n) (bought + m))
-      → b ≡ cond (leb (bought + m) (sold + n)) (bought + m) bought → s ≡ cond (leb (sold + n) (bought + m)) (sold + n) sold
-      → Walked bids (i + x) b asks (j + y) s w
-  walked_more f {m} {n} {w} {x} {y} {b} {s} bid ask least one-buy one-sell after-buy after-sell = record {
+  pub walked_more : {both : ℕ × ℕ} → MeetAs bids i asks j both → {m n w x y b s : ℕ} → m ≡ amount_in both.0 → n ≡ amount_in both.1
+      → w ≡ min (bought + m) (sold + n)
+      → x ≡ i + one_if (leb (bought + m) (sold + n)) → b ≡ cond (leb (bought + m) (sold + n)) (bought + m) bought
+      → y ≡ j + one_if (leb (sold + n) (bought + m)) → s ≡ cond (leb (sold + n) (bought + m)) (sold + n) sold
+      → Walked bids x b asks y s w
+  walked_more f {m} {n} {w} {x} {y} {b} {s} bid ask least one-buy after-buy one-sell after-sell = record {
     buy = passed_more k.buy f.buy p;
     sell = passed_more k.sell f.sell q;
     met = more;
   }
     where
       p : Step bids i bought (bought + m) (sold + n) x b
-      p = record { upto = rw bid; one = one-buy; sum = after-buy }
+      p = record { upto = rw (bid, f.bid); order = one-buy; sum = after-buy }
 
       q : Step asks j sold (sold + n) (bought + m) y s
-      q = record { upto = rw ask; one = one-sell; sum = after-sell }
+      q = record { upto = rw (ask, f.ask); order = one-sell; sum = after-sell }
 
       least_sell : w ≡ min (sold + n) (bought + m)
       least_sell = omega (arith, least)
 
-      more : (h : Heading) (os : List Standing) → LineOf Buy os bids → LineOf Sell os asks → Meeting h os bids (i + x) asks (j + y) w
+      more : (h : Heading) (os : List Standing) → LineOf Buy os bids → LineOf Sell os asks → Meeting h os bids x asks y w
       more h os buys sells =
           let m = k.met h os buys sells in
           let past : v < w =
@@ -258,7 +278,7 @@ module _ {bids : List ℕ} {i bought : ℕ} {asks : List ℕ} {j sold v : ℕ} (
           }
 
   pub walked_all : meet_at bids i asks j ≡ false → (h : Heading) (os : List Standing) → LineOf Buy os bids → LineOf Sell os asks
-      → MetAs h os bids asks (record { volume = record { 0 = v }; buys = i; bought = record { 0 = bought }; sells = j; sold = record { 0 = sold } })
+      → MetAs h os bids asks (record { volume = record { 0 = v }; buys = record { order = i; before = record { 0 = bought } }; sells = record { order = j; before = record { 0 = sold } } })
   walked_all e h os b s =
       let m = k.met h os b s in
       record {

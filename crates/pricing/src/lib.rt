@@ -8,92 +8,114 @@
 
 mod meet;
 
-ghost use Rattle.std.specs.Prelude.{List, ◌≡◌, ◌≤◌, length};
+ghost use Rattle.std.specs.Prelude.{List, ◌≡◌};
 ghost use Rattle.claims.specs.Crossing.{end_within, balanced, crossed_at};
-ghost use Rattle.lines.specs.Lines.{LineOf};
+ghost use Rattle.lines.specs.Lines.{LineOf, place_at};
 ghost use Rattle.rules.specs.AuctionPrice.{auctioned, uncrossed, auction};
+ghost use Rattle.rules.specs.Grid.{nth};
 ghost use Rattle.rules.specs.declared.Side.TheVariants.{Buy, Sell};
 ghost use Rattle.rules.specs.declared.Standing as standing;
 
-use crate::meet::{last_holder, meet, place_at};
-use compare::{greater, lesser};
-use lines::keys::price_at;
-use rules::{Auctioned, Heading, LAST_PRICE, Price, Side};
+use crate::meet::meet;
+use lines::keys::{place_in, price_at};
+use lines::line::Line;
+use rules::{Auctioned, Heading, LAST_PRICE, Price, Side, Situation};
 
-// The price from low to high nearest the last purchase price, between the ends l and r: demand exceeds
-// supply up to `bid`, supply demand from `ask` on.
-fn balanced_price(low: Price, high: Price, bid: Price, ask: Price, last: Price) -> Price
-    ensures { result.0 ≡ balanced low.0 high.0 bid.0 ask.0 last.0 }
-{
-    let l = greater(low.0, lesser(high.0, bid.0));
-    let r = lesser(high.0, greater(low.0, ask.0));
-    Price(greater(l, lesser(r, last.0)))
+// The prices from one to another, none where the first is above the second.
+#[derive(Clone, Copy)]
+struct Span {
+    low: Price,
+    high: Price,
 }
 
-// Situation 0: the maximisers run from a to b. Those in the band are the potential prices, or all if the
+// The limits of the next piece: demand exceeds supply up to the bid, supply demand from the ask on.
+#[derive(Clone, Copy)]
+struct Next {
+    bid: Price,
+    ask: Price,
+}
+
+// The limit of an order of a side's line, the price beyond the side's worst one where the line has no such order.
+fn limit_at(side: Side, line: &Line, order: usize) -> Price
+    ensures { result.0 ≡ nth side (place_at line.now order) }
+{
+    price_at(side, line.get(order).map_or(0, |entry| place_in(*entry)))
+}
+
+// The price of a span nearest the last purchase price, between the ends l and r.
+fn balanced_price(span: Span, next: Next, last: Price) -> Price
+    ensures { result.0 ≡ balanced span.low.0 span.high.0 next.bid.0 next.ask.0 last.0 }
+{
+    let l = span.low.0.max(span.high.0.min(next.bid.0));
+    let r = span.high.0.min(span.low.0.max(next.ask.0));
+    Price(l.max(r.min(last.0)))
+}
+
+// Situation 0, by the span of the maximisers. Those in the band are the potential prices, or all if the
 // band has none.
-fn crossed_price(heading: Heading, last: Price, a: Price, b: Price, bid: Price, ask: Price) -> Price
-    ensures { result.0 ≡ crossed_at heading a.0 b.0 bid.0 ask.0 last.0 }
+fn crossed_price(heading: Heading, last: Price, maximisers: Span, next: Next) -> Price
+    ensures { result.0 ≡ crossed_at heading maximisers.low.0 maximisers.high.0 next.bid.0 next.ask.0 last.0 }
 {
-    let low = Price(greater(heading.lower.0, a.0));
-    let high = Price(lesser(heading.upper.0, b.0));
-    if low.0 <= high.0 {
-        balanced_price(low, high, bid, ask, last)
+    let banded = Span {
+        low: Price(heading.lower.0.max(maximisers.low.0)),
+        high: Price(heading.upper.0.min(maximisers.high.0)),
+    };
+    if banded.low.0 <= banded.high.0 {
+        balanced_price(banded, next, last)
     } else {
-        balanced_price(a, b, bid, ask, last)
+        balanced_price(maximisers, next, last)
     }
 }
 
-// Situations 1 to 4: in the band demand runs up to `bid` and supply from `ask` on, as far as there are any.
-fn uncrossed_price(heading: Heading, last: Price, bid: Price, ask: Price) -> Auctioned
-    ensures { auctioned result ≡ uncrossed heading last.0 (end_within heading Buy bid.0) (end_within heading Sell ask.0) }
+// Situations 1 to 4, by the best price of each side in the band, if it has one there: demand runs up to the
+// bid and supply from the ask on.
+fn uncrossed_price(heading: Heading, last: Price, next: Next) -> Auctioned
+    ensures { auctioned result ≡ uncrossed heading last.0 (end_within heading Buy next.bid.0) (end_within heading Sell next.ask.0) }
 {
-    let indicative = heading.indicative.0;
-    let demanded = lesser(heading.upper.0, bid.0);
-    let supplied = greater(heading.lower.0, ask.0);
-    let some_demand = greater(heading.lower.0, 1) <= demanded;
-    if supplied <= lesser(heading.upper.0, LAST_PRICE) {
-        if some_demand {
-            return Auctioned {
-                situation: 3,
-                price: Price(greater(demanded, lesser(supplied, last.0))),
-            };
-        }
-        return Auctioned {
-            situation: 1,
-            price: Price(lesser(supplied, indicative)),
-        };
-    }
-    if some_demand {
-        return Auctioned {
-            situation: 2,
-            price: Price(greater(demanded, indicative)),
-        };
-    }
+    let highest = heading.upper.0.min(next.bid.0);
+    let lowest = heading.lower.0.max(next.ask.0);
+    let demanded = (heading.lower.0.max(1) <= highest).then_some(highest);
+    let supplied = (lowest <= heading.upper.0.min(LAST_PRICE)).then_some(lowest);
+    let (situation, price) = match (demanded, supplied) {
+        (None, Some(supplied)) => (
+            Situation::SupplyAlone as u32,
+            supplied.min(heading.indicative.0),
+        ),
+        (Some(demanded), None) => (
+            Situation::DemandAlone as u32,
+            demanded.max(heading.indicative.0),
+        ),
+        (Some(demanded), Some(supplied)) => (
+            Situation::Apart as u32,
+            demanded.max(supplied.min(last.0)),
+        ),
+        (None, None) => (Situation::Empty as u32, last.0),
+    };
     Auctioned {
-        situation: 4,
-        price: last,
+        situation,
+        price: Price(price),
     }
 }
 
 // The situation and the auction price of a round, from the band and the indicative price of the heading, the
 // last purchase price and the lines of both sides at their limits in force.
-pub fn auction_price(heading: Heading, last: Price, bids: &[u64], asks: &[u64]) -> Auctioned
-    requires { (length bids.now ≤ 120) × (length asks.now ≤ 120) }
+pub fn auction_price(heading: Heading, last: Price, bids: &Line, asks: &Line) -> Auctioned
     ensures { (os : List standing.Standing) → LineOf Buy os bids.now → LineOf Sell os asks.now → auctioned result ≡ auction heading last.0 os }
 {
     let met = meet(bids, asks);
-    let bid = price_at(Side::Buy, place_at(bids, met.buys));
-    let ask = price_at(Side::Sell, place_at(asks, met.sells));
+    let next = Next {
+        bid: limit_at(Side::Buy, bids, met.buys.order),
+        ask: limit_at(Side::Sell, asks, met.sells.order),
+    };
     if met.volume.0 == 0 {
-        return uncrossed_price(heading, last, bid, ask);
+        return uncrossed_price(heading, last, next);
     }
-    let buyer = last_holder(met.bought, met.buys, met.volume);
-    let seller = last_holder(met.sold, met.sells, met.volume);
-    let a = price_at(Side::Sell, place_at(asks, seller));
-    let b = price_at(Side::Buy, place_at(bids, buyer));
+    let maximisers = Span {
+        low: limit_at(Side::Sell, asks, met.sells.last_holder(met.volume)),
+        high: limit_at(Side::Buy, bids, met.buys.last_holder(met.volume)),
+    };
     Auctioned {
-        situation: 0,
-        price: crossed_price(heading, last, a, b, bid, ask),
+        situation: Situation::Crossed as u32,
+        price: crossed_price(heading, last, maximisers, next),
     }
 }

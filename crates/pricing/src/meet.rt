@@ -1,96 +1,90 @@
 // How far the two sides of a round meet. While the orders of both sides that hold the next piece meet, the
 // pieces that both sides have up to them are carried, and an order whose pieces all are is passed.
-ghost use Rattle.std.specs.Prelude.{cond, List, ◌≡◌, ◌-◌, ◌≤◌, leb, ltb, length};
-ghost use Rattle.lines.specs.Lines.{LineOf, place_at};
+ghost use Rattle.std.specs.Prelude.{false, cond, List, ◌≡◌, ◌+◌, ◌-◌, ◌<◌, leb, ltb, MatchOption};
+ghost use Rattle.lines.specs.Lines.{LineOf};
 ghost use Rattle.rules.specs.declared.Heading as heading;
 ghost use Rattle.rules.specs.declared.Side.TheVariants.{Buy, Sell};
 ghost use Rattle.rules.specs.declared.Standing as standing;
-ghost use Rattle.pricing.specs.Meeting.{meet_at, MetAs};
+ghost use Rattle.pricing.specs.Meeting.{meet_at, MeetAs, MetAs};
 
-use compare::smaller;
 use lines::keys::{amount_in, place_in};
+use lines::line::Line;
 use rules::{LAST_PRICE, Total};
 
-// The pieces that meet, the orders of both sides that hold the next one, and the pieces before those orders.
+// How far a line is gone through: the order that holds the next piece, and the pieces before that order.
+#[derive(Clone, Copy)]
+pub(crate) struct Reached {
+    pub order: usize,
+    pub before: Total,
+}
+
+// The pieces that meet, and how far each line is gone through for them.
 #[derive(Clone, Copy)]
 pub(crate) struct Met {
     pub volume: Total,
-    pub buys: usize,
-    pub bought: Total,
-    pub sells: usize,
-    pub sold: Total,
+    pub buys: Reached,
+    pub sells: Reached,
 }
 
-// The place of an order of a line, 0 where there is none.
-pub(crate) fn place_at(line: &[u64], i: usize) -> u32
-    ensures { result ≡ place_at line.now i }
-{
-    if i < line.len() { place_in(line[i]) } else { 0 }
-}
-
-// Whether the orders of two lines are there and meet: their places from both ends of the grid overlap.
-fn meets(bids: &[u64], i: usize, asks: &[u64], j: usize) -> bool
-    ensures { result ≡ meet_at bids.now i asks.now j }
-{
-    if bids.len() <= i {
-        return false;
+impl Reached {
+    // Behind the order, with which there are so many pieces, if the other side has as many.
+    fn passing(self, upto: Total, other: Total) -> Reached
+        requires { self.order < 120 }
+        ensures { (result.order ≡ self.order + cond (leb upto.0 other.0) 1 0) × (result.before.0 ≡ cond (leb upto.0 other.0) upto.0 self.before.0) }
+    {
+        if upto.0 <= other.0 {
+            Reached {
+                order: self.order + 1,
+                before: upto,
+            }
+        } else {
+            self
+        }
     }
-    if asks.len() <= j {
-        return false;
+
+    // The order that holds the last piece of a volume above 0.
+    pub(crate) fn last_holder(self, volume: Total) -> usize
+        ensures { result ≡ cond (ltb self.before.0 volume.0) self.order (self.order - 1) }
+    {
+        if self.before.0 < volume.0 {
+            self.order
+        } else {
+            self.order.saturating_sub(1)
+        }
     }
-    LAST_PRICE < place_in(bids[i]) + place_in(asks[j])
 }
 
-// 1 where a total is at most another, else 0.
-fn at_most(a: Total, b: Total) -> usize
-    ensures { (result ≡ cond (leb a.0 b.0) 1 0) × (result ≤ 1) }
+// The entries of two orders, where both are there and meet: their places from both ends of the grid overlap.
+fn meeting(bids: &Line, i: usize, asks: &Line, j: usize) -> Option<(u64, u64)>
+    ensures { MatchOption result (meet_at bids.now i asks.now j ≡ false) (MeetAs bids.now i asks.now j) }
 {
-    if a.0 <= b.0 { 1 } else { 0 }
-}
-
-// The pieces of the orders that are passed: those up to the order where the other side has as many, else
-// those before it.
-fn passed(before: Total, upto: Total, other: Total) -> Total
-    ensures { result.0 ≡ cond (leb upto.0 other.0) upto.0 before.0 }
-{
-    if upto.0 <= other.0 { upto } else { before }
+    let bid = *bids.get(i)?;
+    let ask = *asks.get(j)?;
+    (LAST_PRICE < place_in(bid) + place_in(ask)).then_some((bid, ask))
 }
 
 // How far the two lines meet.
-pub(crate) fn meet(bids: &[u64], asks: &[u64]) -> Met
-    requires { (length bids.now ≤ 120) × (length asks.now ≤ 120) }
+pub(crate) fn meet(bids: &Line, asks: &Line) -> Met
     ensures { (h : heading.Heading) (os : List standing.Standing) → LineOf Buy os bids.now → LineOf Sell os asks.now → MetAs h os bids.now asks.now result }
 {
-    let mut volume = Total(0);
-    let mut buys: usize = 0;
-    let mut bought = Total(0);
-    let mut sells: usize = 0;
-    let mut sold = Total(0);
-    while meets(bids, buys, asks, sells) {
-        let demand = Total(bought.0 + amount_in(bids[buys]));
-        let supply = Total(sold.0 + amount_in(asks[sells]));
-        volume = smaller(demand, supply);
-        buys += at_most(demand, supply);
-        sells += at_most(supply, demand);
-        bought = passed(bought, demand, supply);
-        sold = passed(sold, supply, demand);
+    let start = Reached {
+        order: 0,
+        before: Total(0),
+    };
+    let mut met = Met {
+        volume: Total(0),
+        buys: start,
+        sells: start,
+    };
+    // Which line goes on is known from both, so going over one of them by `for` would be no plainer.
+    while let Some((bid, ask)) = meeting(bids, met.buys.order, asks, met.sells.order) {
+        let demand = Total(met.buys.before.0 + amount_in(bid));
+        let supply = Total(met.sells.before.0 + amount_in(ask));
+        met = Met {
+            volume: Total(demand.0.min(supply.0)),
+            buys: met.buys.passing(demand, supply),
+            sells: met.sells.passing(supply, demand),
+        };
     }
-    Met {
-        volume,
-        buys,
-        bought,
-        sells,
-        sold,
-    }
-}
-
-// The order that holds the last piece of a volume above 0, where order i holds the next one and `before`
-// pieces stand before it.
-pub(crate) fn last_holder(before: Total, i: usize, volume: Total) -> usize
-    ensures { result ≡ cond (ltb before.0 volume.0) i (i - 1) }
-{
-    if before.0 < volume.0 {
-        return i;
-    }
-    if i == 0 { 0 } else { i - 1 }
+    met
 }

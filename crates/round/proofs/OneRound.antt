@@ -25,12 +25,12 @@ use Rattle.round.specs.declared.Round.{Round}
 
 -- ---- The last step
 
-pub settled_is : (h : Heading) (os : List Standing) {a : Auctioned} {f : Filled} → f ≡ filled_with h (auctioned a) os
+pub settled_is : (h : Heading) (os : List Standing) (a : Auctioned) {f : Filled} → f ≡ filled_with h (auctioned a) os
     → {p : ℕ} → p ≡ purchase_price h (auctioned a) f.total.0
     → record { situation = a.situation; price = a.price.0; purchase = p; total = f.total.0; fills = map (λ (m : Pieces). m.0) f.fills }
     ≡ with_places (settled h os (auctioned a))
 unfolding settled
-settled_is h os {a} {f} given purchase =
+settled_is h os a {f} given purchase =
     let sum : f.total.0 ≡ largest_total h (auctioned a) os = total-given h (auctioned a) os given in
     let fills = fills_given h (auctioned a) os given in
     rw (purchase, fills, sum, ← total-is h (auctioned a) os Buy, ← fills_length h (auctioned a) os)

@@ -1,12 +1,16 @@
 -- The result words of a round in the part lent for them: four words at the front, then one for each fill, written one after the other.
-use mathlib.Core.List.{List, [], ◌∷◌, ◌++◌, append-nil}
-use mathlib.Core.Path.{◌≡◌, refl, ap}
+use mathlib.Core.List.{List, [], ◌∷◌, ◌++◌, map, append-nil}
+use mathlib.Core.Path.{◌≡◌, refl, sym, ap, ◌∙◌}
 use Prim.Native.Nat.{ℕ, ◌-◌, ◌≤◌, ◌<◌}
 use native.Mathlib.Omega.{arith}
-use lib.ListN.{length, set, take, drop, drop_of_length-le}
+use lib.ListN.{length, set, take, drop, length-take, drop_of_length-le}
+use lib.Seq.{get_or-take}
 use Rattle.claims.specs.Fits.{FitsWords}
 use Rattle.lines.specs.Pieces.{pieces_of}
-use Rattle.rules.proofs.Lists.{length-listed, get_d_listed}
+use Rattle.rules.proofs.Lists.{length-listed, get_d_listed, listed-is, map-listed}
+use Rattle.rules.specs.Lists.{listed}
+use Rattle.rules.specs.Words.{word}
+use Rattle.rules.specs.declared.Pieces.{Pieces}
 use Rattle.round.specs.HandedBack.{of_orders}
 use Rattle.round.specs.declared.Round.{Round}
 
@@ -34,7 +38,24 @@ round_written xs a b c d {last} {fills} h e =
         let all : length ys ≤ length (a ∷ b ∷ c ∷ d ∷ ys) - 4 = omega arith in
         rw (drop_of_length-le ys all) (ap (λ (zs : List ℕ). a ∷ b ∷ c ∷ d ∷ zs) (append-nil fills))
 
+-- ---- The fills of the first n orders
+
+-- they are n of the 120
+pub fills_long : (n : ℕ) (r : Round) → length r.fills ≡ 120 → n ≤ 120 → length (take n r.fills) ≡ n
+fills_long n r all few = length-take n r.fills ∙ omega (arith, all)
+
+same_pieces : (n : ℕ) (r : Round) (k : ℕ) → k < n → pieces_of (take n r.fills) k ≡ pieces_of r.fills k
+same_pieces n r k l = ap (λ (m : Pieces). m.0) (get_or-take n r.fills k (record { 0 = 0 }) l)
+
 -- where the round fits its words, each fill does
-pub fills_fit : (n : ℕ) (r : Round) → FitsWords (of_orders n r) → (k : ℕ) → k < n → pieces_of r.fills k < 0x1000_0000
+pub fills_fit : (n : ℕ) (r : Round) → FitsWords (of_orders n r) → (k : ℕ) → k < n → pieces_of (take n r.fills) k < 0x1000_0000
 fills_fit n r fits k l =
-    rw (get_d_listed (pieces_of r.fills) n k 0 l) at (fits.fills k (rw (length-listed (pieces_of r.fills) n) l))
+    rw (same_pieces n r k l)
+    (rw (get_d_listed (pieces_of r.fills) n k 0 l) at (fits.fills k (rw (length-listed (pieces_of r.fills) n) l)))
+
+-- their words are those of the round
+pub fills_part : (n : ℕ) (r : Round) → listed (λ k. word 14 (pieces_of (take n r.fills) k)) n ≡ map (word 14) (of_orders n r).fills
+fills_part n r =
+    rw (map-listed (word 14) (pieces_of r.fills) n)
+    (listed-is _ n 0 _ (length-listed _ n)
+    (λ k l. ap (word 14) (same_pieces n r k l) ∙ sym (get_d_listed (λ k. word 14 (pieces_of r.fills k)) n k 0 l)))

@@ -3,7 +3,7 @@
 
 pub mod writing;
 
-ghost use Rattle.std.specs.Prelude.{List, ◌≡◌, ◌≤◌, length};
+ghost use Rattle.std.specs.Prelude.{List, ◌≡◌};
 ghost use Rattle.book.specs.Book.{BookLine, Ranged};
 ghost use Rattle.book.specs.Filed.{remaining_in};
 ghost use Rattle.lines.specs.Lines.{Bounded, LineOf};
@@ -16,9 +16,11 @@ ghost use Rattle.rules.specs.declared.Standing as stood;
 ghost use Rattle.rules.specs.declared.Side.TheVariants.{Buy, Sell};
 ghost use Rattle.round.specs.HandedBack.{handed_back, with_places};
 
+use book::Book;
 use book::force::line_in_force;
 use compare::potential_purchase;
 use filling::fills_of;
+use lines::line::Line;
 use pricing::auction_price;
 use rules::{Auctioned, Heading, Pieces, Price, Side, Total};
 
@@ -43,40 +45,31 @@ fn purchase_price(heading: Heading, auction: Auctioned, total: Total) -> Price
     }
 }
 
-// The rest of a round, by a given auction and the lines in force of both sides: fills, total and purchase price.
-pub fn settle(heading: Heading, auction: Auctioned, bids: &mut [u64], asks: &mut [u64]) -> Round
-    requires { (length bids.old ≤ 120) × (length asks.old ≤ 120) }
+// The rest of a round, by a given auction and the lines in force of both sides, which are used up: fills, total and
+// purchase price.
+pub fn settle(heading: Heading, auction: Auctioned, bids: &mut Line, asks: &mut Line) -> Round
     ensures { (os : List stood.Standing) → Bounded heading → LineOf Buy os bids.old → LineOf Sell os asks.old → handed_back result ≡ with_places (settled heading os (auctioned auction)) }
 {
     let filled = fills_of(heading, auction, bids, asks);
-    let total = filled.total;
-    let price = auction.price;
     let fills = filled.fills;
     Round {
         situation: auction.situation,
-        price,
-        purchase: purchase_price(heading, auction, total),
-        total,
+        price: auction.price,
+        purchase: purchase_price(heading, auction, filled.total),
+        total: filled.total,
         fills,
     }
 }
 
-// A round, from the last purchase price, what remains of each order and the lines of the sheet's book. Its three steps
-// can be called one by one: the lines in force, then the auction price, then the rest.
-pub fn round_of(
-    heading: Heading,
-    last: Price,
-    remaining: [Pieces; 120],
-    bids: &[u64],
-    asks: &[u64],
-) -> Round
-    requires { (length bids.now ≤ 120) × (length asks.now ≤ 120) }
-    ensures { (orders : List order.Order) → BookLine heading orders Buy bids.now → BookLine heading orders Sell asks.now → Ranged heading orders remaining → handed_back result ≡ with_places (round_of heading last.0 (standing heading orders (remaining_in heading remaining))) }
+// A round, from the last purchase price, what remains of each order and the sheet's book. Its three steps can be
+// called one by one: the lines in force, then the auction price, then the rest.
+pub fn round_of(heading: Heading, last: Price, remaining: &[Pieces; 120], book: &Book) -> Round
+    ensures { (orders : List order.Order) → BookLine heading orders Buy book.now.bids → BookLine heading orders Sell book.now.asks → Ranged heading orders remaining.now → handed_back result ≡ with_places (round_of heading last.0 (standing heading orders (remaining_in heading remaining.now))) }
 {
-    let mut buys = [0; 120];
-    let mut sells = [0; 120];
-    let buyers = line_in_force(heading, Side::Buy, bids, remaining, &mut buys);
-    let sellers = line_in_force(heading, Side::Sell, asks, remaining, &mut sells);
-    let auction = auction_price(heading, last, &buys[..buyers], &sells[..sellers]);
-    settle(heading, auction, &mut buys[..buyers], &mut sells[..sellers])
+    let mut bids = Line::new();
+    let mut asks = Line::new();
+    line_in_force(heading, Side::Buy, &book.bids, remaining, &mut bids);
+    line_in_force(heading, Side::Sell, &book.asks, remaining, &mut asks);
+    let auction = auction_price(heading, last, &bids, &asks);
+    settle(heading, auction, &mut bids, &mut asks)
 }

@@ -1,26 +1,20 @@
 -- Clauses 2.1–2.5 of docs/RULES.md: what a call answers, and the numbers of the refusals. Each answer of the engine
--- is an enum; the definitions at the end give the numbers and values of each of its cases.
-use Rattle.std.specs.Prelude.{Bool, cond, List, [], ◌∷◌, ◌++◌, ℕ, get_or}
+-- is a `Result`; the definitions at the end give the numbers and values of what it holds, or its refusal.
+use Rattle.std.specs.Prelude.{Bool, cond, List, [], ◌∷◌, ◌++◌, ℕ, Ok, Err, get_or}
+use Rattle.std.specs.declared.result.Result.{Result}
 use Rattle.rules.specs.Lists.{listed}
-use Rattle.rules.specs.declared.BandAnswer.{BandAnswer}
-use Rattle.rules.specs.declared.BandAnswer.TheVariants.{Bounds, Refused as NoBand}
-use Rattle.rules.specs.declared.Checked.{Checked}
-use Rattle.rules.specs.declared.Checked.TheVariants.{Accepted, Refused}
+use Rattle.rules.specs.declared.Band.{Band as Bounds}
 use Rattle.rules.specs.declared.Clock.{Clock}
-use Rattle.rules.specs.declared.CurvesAnswer.{CurvesAnswer}
-use Rattle.rules.specs.declared.CurvesAnswer.TheVariants.{At as AtPrice, Refused as NoCurves}
+use Rattle.rules.specs.declared.Curves.{Curves}
 use Rattle.rules.specs.declared.OrderFault.{OrderFault}
 use Rattle.rules.specs.declared.OrderFault.TheVariants.{Kind, Terms, Quantity, Ignored}
+use Rattle.rules.specs.declared.Outside.{Outside}
+use Rattle.rules.specs.declared.Outside.TheVariants.{Above, Below}
 use Rattle.rules.specs.declared.Phase.{Phase}
 use Rattle.rules.specs.declared.Phase.TheVariants.{Idle, Waiting}
-use Rattle.rules.specs.declared.PriceAnswer.{PriceAnswer}
-use Rattle.rules.specs.declared.PriceAnswer.TheVariants.{At, Refused as NoPrice}
+use Rattle.rules.specs.declared.Price.{Price}
 use Rattle.rules.specs.declared.Refusal.{Refusal}
 use Rattle.rules.specs.declared.Refusal.TheVariants.{FewWords, HeadingKind, HeadingPrice, HeadingBand, HeadingStep, Length, Order, Argument, AtWord, Tariff, Band, Space, Input}
-use Rattle.rules.specs.declared.SpaceAnswer.{SpaceAnswer}
-use Rattle.rules.specs.declared.SpaceAnswer.TheVariants.{Written, Refused as NoWords}
-use Rattle.rules.specs.declared.WaitingAnswer.{WaitingAnswer}
-use Rattle.rules.specs.declared.WaitingAnswer.TheVariants.{Stands, Refused as NoClock}
 use Rattle.rules.specs.declared.WaitingFault.{WaitingFault}
 use Rattle.rules.specs.declared.WaitingFault.TheVariants.{Word, Second, Widening}
 
@@ -103,44 +97,49 @@ abbrev pub refused : Refusal → Answer
 refused r = refuses (refusal_number r) (refusal_place r)
 
 -- [2.5] A sheet that is accepted gives nothing more.
-abbrev pub check_answer : Checked → Answer
-check_answer Accepted = gives []
-check_answer (Refused r) = refused r
+abbrev pub check_answer : Result (Unit {0}) Refusal → Answer
+check_answer (Ok tt) = gives []
+check_answer (Err r) = refused r
 
 -- [2.5] A price.
-abbrev pub price_answer : PriceAnswer → Answer
-price_answer (At p) = gives (p.0 ∷ [])
-price_answer (NoPrice r) = refused r
+abbrev pub price_answer : Result Price Refusal → Answer
+price_answer (Ok p) = gives (p.0 ∷ [])
+price_answer (Err r) = refused r
 
 -- [2.5] Demand, supply and volume.
-abbrev pub curves_answer : CurvesAnswer → Answer
-curves_answer (AtPrice demand supply volume) = gives (demand.0 ∷ supply.0 ∷ volume.0 ∷ [])
-curves_answer (NoCurves r) = refused r
+abbrev pub curves_answer : Result Curves Refusal → Answer
+curves_answer (Ok c) = gives (c.demand.0 ∷ c.supply.0 ∷ c.volume.0 ∷ [])
+curves_answer (Err r) = refused r
 
 -- [2.5] The first words of a space, as many as counted.
 abbrev pub first_words : ℕ → List ℕ → List ℕ
 first_words count space = listed (λ i. get_or space i 0) count
 
 -- [2.5] The words written, which are the first of those that the space holds afterwards.
-abbrev pub space_answer : SpaceAnswer → List ℕ → Answer
-space_answer (Written count) space = gives (first_words count space)
-space_answer (NoWords r) space = refused r
+abbrev pub space_answer : Result ℕ Refusal → List ℕ → Answer
+space_answer (Ok count) space = gives (first_words count space)
+space_answer (Err r) space = refused r
 
 -- [2.5] The lower bound, then the upper.
-abbrev pub band_answer : BandAnswer → Answer
-band_answer (Bounds lower upper) = gives (lower.0 ∷ upper.0 ∷ [])
-band_answer (NoBand r) = refused r
+abbrev pub band_answer : Result Bounds Refusal → Answer
+band_answer (Ok b) = gives (b.lower.0 ∷ b.upper.0 ∷ [])
+band_answer (Err r) = refused r
+
+-- [2.5] The side of a phase: 0 above the band, 1 below it.
+abbrev pub side_number : Outside → ℕ
+side_number Above = 0
+side_number Below = 1
 
 -- [2.5] During a waiting phase 1, its start and its side; outside one three times 0.
 abbrev pub phase_numbers : Phase → List ℕ
 phase_numbers Idle = 0 ∷ 0 ∷ 0 ∷ []
-phase_numbers (Waiting start side) = 1 ∷ start ∷ side ∷ []
+phase_numbers (Waiting start side) = 1 ∷ start ∷ side_number side ∷ []
 
 -- [2.5] These three, then the lower bound, the upper, and the openings due.
 abbrev pub clock_numbers : Clock → List ℕ
 clock_numbers c = phase_numbers c.phase ++ (c.lower.0 ∷ c.upper.0 ∷ c.due ∷ [])
 
 -- [2.5] The clock that a waiting list leads to.
-abbrev pub waiting_answer : WaitingAnswer → Answer
-waiting_answer (Stands c) = gives (clock_numbers c)
-waiting_answer (NoClock r) = refused r
+abbrev pub waiting_answer : Result Clock Refusal → Answer
+waiting_answer (Ok c) = gives (clock_numbers c)
+waiting_answer (Err r) = refused r

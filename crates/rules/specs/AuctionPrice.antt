@@ -9,6 +9,8 @@ use Rattle.rules.specs.declared.Auctioned.{Auctioned}
 use Rattle.rules.specs.declared.Heading.{Heading}
 use Rattle.rules.specs.declared.Side.{Side}
 use Rattle.rules.specs.declared.Side.TheVariants.{Buy, Sell}
+use Rattle.rules.specs.declared.Situation.{Situation}
+use Rattle.rules.specs.declared.Situation.TheVariants.{Crossed, SupplyAlone, DemandAlone, Apart, Empty}
 use Rattle.rules.specs.declared.Standing.{Standing}
 
 -- ---- The curves
@@ -51,6 +53,14 @@ carries h os p = volume (level h os p)
 pub record Auction : Type 0 where
   pub situation : ℕ
   pub price : ℕ
+
+-- [5.4] The number of a situation (5.10, 5.11).
+abbrev pub situation_number : Situation → ℕ
+situation_number Crossed = 0
+situation_number SupplyAlone = 1
+situation_number DemandAlone = 2
+situation_number Apart = 3
+situation_number Empty = 4
 
 -- [5.4] The same, as the engine hands it on.
 abbrev pub auctioned : Auctioned → Auction

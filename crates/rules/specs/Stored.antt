@@ -1,32 +1,31 @@
 -- Clauses 10.6a–10.6c of docs/RULES.md: a stored result beside its sheet, whether it opens, and what a round of it says.
-use Rattle.std.specs.Prelude.{not, cond, List, [], ◌∷◌, ◌++◌, ℕ, ◌+◌, ltb, eqb}
+use Rattle.std.specs.Prelude.{not, cond, List, [], ◌∷◌, ◌++◌, ℕ, ◌+◌, ltb, eqb, Some, None, Ok, Err}
+use Rattle.std.specs.declared.option.Option.{Option}
+use Rattle.std.specs.declared.result.Result.{Result}
 use Rattle.rules.specs.Answers.{Answer, gives, refuses, row, downwards, refused}
 use Rattle.rules.specs.Calls.{Call, opening, answer}
 use Rattle.rules.specs.Opening.{Round, opening_space}
 use Rattle.rules.specs.Result.{count, rounds_for, word_place_for, round_said_for}
-use Rattle.rules.specs.declared.Difference.{Difference}
-use Rattle.rules.specs.declared.Difference.TheVariants.{Nowhere, At}
-use Rattle.rules.specs.declared.OpensAnswer.{OpensAnswer}
-use Rattle.rules.specs.declared.OpensAnswer.TheVariants.{Opened, Different as NotTheOne, Refused as NotOpened}
-use Rattle.rules.specs.declared.PageAnswer.{PageAnswer}
-use Rattle.rules.specs.declared.PageAnswer.TheVariants.{Says, Refused as NoPage}
-use Rattle.rules.specs.declared.RoundAnswer.{RoundAnswer}
-use Rattle.rules.specs.declared.RoundAnswer.TheVariants.{Reads, Different, Refused}
+use Rattle.rules.specs.declared.Refusal.{Refusal}
+use Rattle.rules.specs.declared.StoredRound.{StoredRound}
 use Rattle.rules.specs.declared.Summary.{Summary}
+use Rattle.rules.specs.declared.Unopened.{Unopened}
+use Rattle.rules.specs.declared.Unopened.TheVariants.{Different, Refused}
 
 -- ---- Two lists of words
 
 -- [10.6a] A difference, so many words further on.
-abbrev pub further : ℕ → Difference → Difference
-further words Nowhere = Nowhere
-further words (At place) = At (words + place)
+abbrev pub further : ℕ → Option ℕ → Option ℕ
+further words None = None
+further words (Some place) = Some (words + place)
 
--- [10.6a] Where two lists first differ, counted from 0; where one is the beginning of the other, at the length of the shorter.
-unfoldable pub first_difference : List ℕ → List ℕ → Difference
-first_difference [] [] = Nowhere
-first_difference [] (y ∷ ys) = At 0
-first_difference (x ∷ xs) [] = At 0
-first_difference (x ∷ xs) (y ∷ ys) = cond (eqb x y) (further 1 (first_difference xs ys)) (At 0)
+-- [10.6a] Where two lists first differ, counted from 0, or none; where one is the beginning of the other, at the length of the
+-- shorter.
+unfoldable pub first_difference : List ℕ → List ℕ → Option ℕ
+first_difference [] [] = None
+first_difference [] (y ∷ ys) = Some 0
+first_difference (x ∷ xs) [] = Some 0
+first_difference (x ∷ xs) (y ∷ ys) = cond (eqb x y) (further 1 (first_difference xs ys)) (Some 0)
 
 -- ---- A stored result beside its sheet
 
@@ -36,9 +35,9 @@ pub data StoredAnswer : Type 0 where
   differs : ℕ → StoredAnswer
 
 -- [10.6b] Where there is no difference the answer is a.
-abbrev pub unless_different : Difference → Answer → StoredAnswer
-unless_different Nowhere a = answers a
-unless_different (At place) a = differs place
+abbrev pub unless_different : Option ℕ → Answer → StoredAnswer
+unless_different None a = answers a
+unless_different (Some place) a = differs place
 
 -- [10.6b] What is answered beside what the opening answers: its refusal comes first, then a difference from its words, then a.
 abbrev pub beside : Answer → List ℕ → Answer → StoredAnswer
@@ -54,11 +53,15 @@ pub data StoredCall : Type 0 where
   open_stored : List ℕ → List ℕ → StoredCall
   stored_round : List ℕ → List ℕ → ℕ → StoredCall
 
+-- [10.6b] Why a result does not open, of the engine's answer.
+abbrev pub unopened : Unopened → StoredAnswer
+unopened (Different place) = differs place
+unopened (Refused r) = answers (refused r)
+
 -- [10.6b] Whether a result opens, of the engine's answer.
-abbrev pub opens_answer : OpensAnswer → StoredAnswer
-opens_answer Opened = answers (gives [])
-opens_answer (NotTheOne place) = differs place
-opens_answer (NotOpened r) = answers (refused r)
+abbrev pub opens_answer : Result (Unit {0}) Unopened → StoredAnswer
+opens_answer (Ok tt) = answers (gives [])
+opens_answer (Err u) = unopened u
 
 -- ---- A round
 
@@ -97,12 +100,11 @@ abbrev pub summary_numbers : Summary → List ℕ
 summary_numbers s = s.situation ∷ s.price.0 ∷ s.purchase.0 ∷ s.total.0 ∷ []
 
 -- [10.6c] A page, of the engine's answer.
-abbrev pub page_answer : PageAnswer → Answer
-page_answer (Says s) = gives (summary_numbers s)
-page_answer (NoPage r) = refused r
+abbrev pub page_answer : Result Summary Refusal → Answer
+page_answer (Ok s) = gives (summary_numbers s)
+page_answer (Err r) = refused r
 
 -- [10.6c] A round, likewise: these four, then the place of its first fill word and the number of its fill words.
-abbrev pub round_answer : RoundAnswer → StoredAnswer
-round_answer (Reads s fills count) = answers (gives (summary_numbers s ++ (fills ∷ count ∷ [])))
-round_answer (Different place) = differs place
-round_answer (Refused r) = answers (refused r)
+abbrev pub round_answer : Result StoredRound Unopened → StoredAnswer
+round_answer (Ok r) = answers (gives (summary_numbers r.summary ++ (r.fills ∷ r.count ∷ [])))
+round_answer (Err u) = unopened u

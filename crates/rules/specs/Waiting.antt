@@ -1,10 +1,12 @@
 -- Clauses 9.9–9.16 of docs/RULES.md: the waiting clock, which follows a list of words, with refusals 9, 11, 13 and 14 of
 -- its call.
 use Rattle.std.specs.Prelude.{Bool, false, not, ◌&&◌, ◌||◌, cond, List, [], ◌∷◌, ℕ, ◌+◌, leb, ltb, eqb}
-use Rattle.rules.specs.Answers.{Answer, gives, Check, row, row_at, downwards, clock_numbers}
+use Rattle.rules.specs.Answers.{Answer, gives, Check, row, row_at, downwards, side_number, clock_numbers}
 use Rattle.rules.specs.Band.{band_stands, widened_upper, widened_lower, cannot_widen}
 use Rattle.rules.specs.Words.{word_of}
 use Rattle.rules.specs.declared.Clock.{Clock}
+use Rattle.rules.specs.declared.Outside.{Outside}
+use Rattle.rules.specs.declared.Outside.TheVariants.{Above, Below}
 use Rattle.rules.specs.declared.Phase.{Phase}
 use Rattle.rules.specs.declared.Phase.TheVariants.{Idle, Waiting}
 use Rattle.rules.specs.declared.Word.{Word}
@@ -42,15 +44,15 @@ clock_at_start D H = record {
 -- [9.10] The side of the phase; it matters only where one is on.
 abbrev pub side_in : Phase → ℕ
 side_in Idle = 0
-side_in (Waiting start side) = side
+side_in (Waiting start side) = side_number side
 
 -- [9.11] The second at which the phase started; where none is on, the latest one, at which it would start now.
 abbrev pub start_in : Phase → ℕ → ℕ
 start_in Idle second = second
 start_in (Waiting start side) second = start
 
--- [9.11] After a round outside the band a phase is on, and the side is that of the round: 0 above, 1 below.
-unfoldable pub after_outside : ℕ → Clock → Clock
+-- [9.11] After a round outside the band a phase is on, and the side is that of the round: above or below.
+unfoldable pub after_outside : Outside → Clock → Clock
 after_outside side c = record {
   second = c.second;
   phase = Waiting (start_in c.phase c.second) side;
@@ -94,7 +96,7 @@ unfoldable pub after_word : Clock → Word → Clock
 after_word c w =
     cond (is_second w)
     (after_second w.value c)
-    (cond (eqb w.kind 2) (after_outside 0 c) (cond (eqb w.kind 3) (after_outside 1 c) (after_inside c)))
+    (cond (eqb w.kind 2) (after_outside Above c) (cond (eqb w.kind 3) (after_outside Below c) (after_inside c)))
 
 -- ---- Where a refusal arises
 

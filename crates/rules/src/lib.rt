@@ -3,9 +3,11 @@
 
 ghost use Rattle.std.specs.Prelude.{◌≡◌};
 ghost use Rattle.rules.specs.Grid.{on_grid};
-ghost use Rattle.rules.specs.Answers.{fault_number, waiting_fault_number, refusal_number, refusal_place};
+ghost use Rattle.rules.specs.declared.Unopened.TheVariants.{Refused};
+ghost use Rattle.rules.specs.AuctionPrice.{situation_number};
+ghost use Rattle.rules.specs.Answers.{fault_number, waiting_fault_number, side_number, refusal_number, refusal_place};
 
-// Clause 1.1: a price, in tens of hellers.
+// Clause 1.1: a price, in tens of hellers. Prices and pieces are compared as numbers, as the definitions do.
 #[derive(Clone, Copy)]
 pub struct Price(pub u32);
 
@@ -31,14 +33,14 @@ pub fn on_grid(price: u32) -> bool
     (1 <= price) & (price <= LAST_PRICE)
 }
 
-// Clause 1.5: a word of a sheet, of a result or of a waiting list.
+// Clause 1.5: a word of a sheet, of a result or of a waiting list. Its kind is a number, as the definitions compare it.
 #[derive(Clone, Copy)]
 pub struct Word {
     pub kind: u32,
     pub value: u32,
 }
 
-#[derive(Clone, Copy)]
+#[derive(Clone, Copy, PartialEq, Eq)]
 pub enum Side {
     Buy,
     Sell,
@@ -68,7 +70,22 @@ pub struct Standing {
     pub all_or_none: bool,
 }
 
-// The situation of a round, 0 to 4, and its auction price.
+// Clauses 5.10 and 5.11: what demand and supply a round has, and where.
+#[derive(Clone, Copy)]
+pub enum Situation {
+    // Both meet at some price.
+    Crossed = 0,
+    // The band has supply alone.
+    SupplyAlone = 1,
+    // The band has demand alone.
+    DemandAlone = 2,
+    // The band has both, but at no price both.
+    Apart = 3,
+    // The band has neither.
+    Empty = 4,
+}
+
+// The situation of a round, by its number, and its auction price. What settles a round promises its fills for any number.
 #[derive(Clone, Copy)]
 pub struct Auctioned {
     pub situation: u32,
@@ -87,12 +104,35 @@ pub struct Heading {
     pub step: QuotationStep,
 }
 
-// Clause 9.10: whether a waiting phase is on, with the second of the day at which it started and its side,
-// 0 above and 1 below, on which a widening would move the band's bound.
+// What an accepted sheet says: its heading, and its orders in 120 places, those from the number of orders on
+// holding none. They stand in places as the fills do, which a round hands back for all 120; the sheet itself says how
+// many they are.
+#[derive(Clone, Copy)]
+pub struct Sheet {
+    pub heading: Heading,
+    pub orders: [Order; 120],
+}
+
+// Clause 9.6: the bounds of a band.
+#[derive(Clone, Copy)]
+pub struct Band {
+    pub lower: Price,
+    pub upper: Price,
+}
+
+// Clause 9.10: the side on which a round was priced outside the band. A widening moves the bound of that side.
+#[derive(Clone, Copy)]
+pub enum Outside {
+    Above = 0,
+    Below = 1,
+}
+
+// Clause 9.10: whether a waiting phase is on, with the second of the day at which it started and its side. An `Option`
+// would be no plainer: the definitions of the clock tell the two cases by these names.
 #[derive(Clone, Copy)]
 pub enum Phase {
     Idle,
-    Waiting { start: u32, side: u32 },
+    Waiting { start: u32, side: Outside },
 }
 
 // Clause 9.10: what the words of a waiting list lead to: the latest second said, the phase, the band's
@@ -122,31 +162,31 @@ pub struct Trade {
     pub purchase: Price,
 }
 
-// What may be wrong with an order.
+// What may be wrong with an order, by the number of its refusal.
 #[derive(Clone, Copy)]
 pub enum OrderFault {
     // A wrong kind in its three words.
-    Kind,
+    Kind = 5,
     // Disposition or limit not allowed.
-    Terms,
+    Terms = 6,
     // Quantity out of range.
-    Quantity,
+    Quantity = 7,
     // Ignored quantity out of range, or on an order that is no Stepper.
-    Ignored,
+    Ignored = 8,
 }
 
-// What may be wrong with a word of a waiting list.
+// What may be wrong with a word of a waiting list, by the number of its refusal.
 #[derive(Clone, Copy)]
 pub enum WaitingFault {
     // A kind or a value that it may not have.
-    Word,
+    Word = 13,
     // A second that is lower than the one before it.
-    Second,
+    Second = 14,
     // A second whose widening would leave the grid.
-    Widening,
+    Widening = 11,
 }
 
-// Why a call refuses.
+// Why a call refuses. A call answers with a `Result`, whose error is this.
 #[derive(Clone, Copy)]
 pub enum Refusal {
     // Fewer than 5 words.
@@ -177,16 +217,13 @@ pub enum Refusal {
     Input,
 }
 
+// Each enum below has its number by a function of its own: each promises another definition, and a cast cannot be
+// generic.
 impl OrderFault {
     pub fn number(self) -> u32
         ensures { result ≡ fault_number self }
     {
-        match self {
-            OrderFault::Kind => 5,
-            OrderFault::Terms => 6,
-            OrderFault::Quantity => 7,
-            OrderFault::Ignored => 8,
-        }
+        self as u32
     }
 }
 
@@ -194,11 +231,23 @@ impl WaitingFault {
     pub fn number(self) -> u32
         ensures { result ≡ waiting_fault_number self }
     {
-        match self {
-            WaitingFault::Word => 13,
-            WaitingFault::Second => 14,
-            WaitingFault::Widening => 11,
-        }
+        self as u32
+    }
+}
+
+impl Situation {
+    pub fn number(self) -> u32
+        ensures { result ≡ situation_number self }
+    {
+        self as u32
+    }
+}
+
+impl Outside {
+    pub fn number(self) -> u32
+        ensures { result ≡ side_number self }
+    {
+        self as u32
     }
 }
 
@@ -229,86 +278,39 @@ impl Refusal {
         ensures { result ≡ refusal_place self }
     {
         match self {
-            Refusal::FewWords => 0,
-            Refusal::HeadingKind => 0,
-            Refusal::HeadingPrice => 0,
-            Refusal::HeadingBand => 0,
-            Refusal::HeadingStep => 0,
-            Refusal::Length => 0,
             Refusal::Order(_, order) => order,
-            Refusal::Argument => 0,
             Refusal::AtWord(_, word) => word,
-            Refusal::Tariff => 0,
-            Refusal::Band => 0,
-            Refusal::Space => 0,
-            Refusal::Input => 0,
+            _ => 0,
         }
     }
 }
 
-// The answer of the check of a sheet.
+// Demand, supply and volume at a price.
 #[derive(Clone, Copy)]
-pub enum Checked {
-    Accepted,
-    Refused(Refusal),
+pub struct Curves {
+    pub demand: Total,
+    pub supply: Total,
+    pub volume: Total,
 }
 
-// The answer of a call that gives a price.
+// Clause 10.6b: why a stored result does not open beside its sheet: it first differs at this place, or the opening
+// of the sheet is refused.
 #[derive(Clone, Copy)]
-pub enum PriceAnswer {
-    At(Price),
-    Refused(Refusal),
-}
-
-// The answer of the call that gives demand, supply and volume at a price.
-#[derive(Clone, Copy)]
-pub enum CurvesAnswer {
-    At {
-        demand: Total,
-        supply: Total,
-        volume: Total,
-    },
-    Refused(Refusal),
-}
-
-// The answer of a call that writes words into a lent space: how many it wrote, from the space's start.
-#[derive(Clone, Copy)]
-pub enum SpaceAnswer {
-    Written(usize),
-    Refused(Refusal),
-}
-
-// The answer of a call that gives a band.
-#[derive(Clone, Copy)]
-pub enum BandAnswer {
-    Bounds { lower: Price, upper: Price },
-    Refused(Refusal),
-}
-
-// The answer of the call that follows a waiting list: the clock that it leads to.
-#[derive(Clone, Copy)]
-pub enum WaitingAnswer {
-    Stands(Clock),
-    Refused(Refusal),
-}
-
-// Clause 10.6a: where two lists of words first differ.
-#[derive(Clone, Copy)]
-pub enum Difference {
-    Nowhere,
-    At(usize),
-}
-
-// The answer of the call that opens a stored result beside its sheet: that it opens, the place of the first difference,
-// or a refusal.
-#[derive(Clone, Copy)]
-pub enum OpensAnswer {
-    Opened,
+pub enum Unopened {
     Different(usize),
     Refused(Refusal),
 }
 
-// Clause 10.6c: what a round of a result says before its fills.
+impl From<Refusal> for Unopened {
+    ghost from_gives = { λ refusal unopened. unopened ≡ Refused refusal };
+
+    fn from(refusal: Refusal) -> Unopened {
+        Unopened::Refused(refusal)
+    }
+}
+
+// Clause 10.6c: what a round of a result says before its fills. The situation is a number, as stored words may say any:
+// `page_answer` gives it as it stands.
 #[derive(Clone, Copy)]
 pub struct Summary {
     pub situation: u32,
@@ -317,22 +319,10 @@ pub struct Summary {
     pub total: Pieces,
 }
 
-// What a page of an opened result says.
+// Clause 10.6c: what a round of a stored result says, with the place of its first fill word and how many there are.
 #[derive(Clone, Copy)]
-pub enum PageAnswer {
-    Says(Summary),
-    Refused(Refusal),
-}
-
-// The answer of the call that reads a round of a stored result: what it says, with the place of its first fill word and
-// how many there are; the place of the first difference; or a refusal.
-#[derive(Clone, Copy)]
-pub enum RoundAnswer {
-    Reads {
-        summary: Summary,
-        fills: usize,
-        count: usize,
-    },
-    Different(usize),
-    Refused(Refusal),
+pub struct StoredRound {
+    pub summary: Summary,
+    pub fills: usize,
+    pub count: usize,
 }

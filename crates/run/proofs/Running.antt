@@ -8,12 +8,10 @@ use Prim.Native.Nat.{ℕ, suc, ◌+◌, ◌-◌, ◌*◌, ◌≤◌, ◌<◌}
 use native.Mathlib.Nat.{le_trans, suc-mul, mul-le-mul_right}
 use native.Mathlib.Numerals.{add-one}
 use native.Mathlib.Omega.{arith}
-use lib.Dec.{eqb}
-use lib.ListN.{length, get_or, take, drop, set, length-append, length-drop}
+use lib.ListN.{length, get_or, take, drop, set, length-append}
 use lib.Seq.{take_at, drop_at, drop-drop, drop-cons, set_at}
-use Rattle.book.specs.Book.{BookOf, Ranged}
+use Rattle.book.specs.Book.{Ranged}
 use Rattle.book.specs.Filed.{filed_in, remaining_in}
-use Rattle.book.specs.declared.Book.{Book}
 use Rattle.claims.proofs.Bounds.{most_space}
 use Rattle.claims.specs.Fits.{FitsWords}
 use Rattle.claims.proofs.Rounds.{live, leaves_fewer, count-orders}
@@ -23,39 +21,20 @@ use Rattle.round.proofs.OneRound.{of_orders_lem}
 use Rattle.round.specs.HandedBack.{handed_back, with_places, of_orders}
 use Rattle.round.specs.declared.Round as declared
 use Rattle.rules.proofs.Accepted.{sound_band}
-use Rattle.rules.proofs.Tests.{by_test}
-use Rattle.rules.specs.AuctionPrice.{in_band}
 use Rattle.rules.specs.Result.{count}
 use Rattle.rules.specs.Limits.{no_order, filed, standing}
 use Rattle.rules.specs.Lists.{listed}
-use Rattle.rules.specs.Opening.{Round, Start as RulesStart, round_of, round_from, first_start, after, goes_on, ending_after, round_words, rounds_words, opening_words, round_space, opening_space}
+use Rattle.rules.specs.Opening.{Start as RulesStart, round_of, round_from, first_start, after, goes_on, ending_after, round_words, rounds_words, opening_words, round_space, opening_space}
 use Rattle.rules.specs.Sheet.{D, H, heading_of, orders_of}
 use Rattle.rules.specs.Words.{word}
 use Rattle.rules.specs.declared.Heading.{Heading}
-use Rattle.rules.specs.declared.Order.{Order}
+use Rattle.rules.specs.declared.Sheet.{Sheet}
 use Rattle.run.proofs.Accepted.{orders_are, count-is, sound, sheet_ranged}
 use Rattle.book.proofs.Remaining.{remaining_at}
 use Rattle.run.proofs.Places.{remaining_first, rules_start, start_after_lem}
-use Rattle.run.specs.Accepted.{AcceptedAs}
+use Rattle.sheet.specs.Reading.{AcceptedAs}
 use Rattle.run.specs.Starts.{start_of, start_after, Ran}
 use Rattle.run.specs.declared.start.Start.{Start}
-
-ending_small : (h : Heading) (r : Round) → ending_after h r ≤ 2
-unfolding ending_after
-ending_small h r =
-    by_test (λ x. x ≤ 2) (eqb r.situation 0)
-    (λ e. by_test (λ x. x ≤ 2) (in_band h r.price) (λ f. omega arith) (λ f. omega arith))
-    (λ e. omega arith)
-
--- the value of the last word fits its bits
-pub last_fits : (h : Heading) (r : Round) {ending k : ℕ} → ending ≡ ending_after h r → k ≤ 120 → ending * 65536 + (k + 1) ≤ 131193
-last_fits h r e few = omega (arith, ending_small h r)
-
--- the sheet ws is accepted with this heading and these orders, and this is what its opening starts from: first remainders and book
-pub record Opens (ws : List ℕ) (h : Heading) (orders : List Order) (start : Start) (b : Book) : Type 0 where
-  pub accepted : AcceptedAs ws h orders
-  pub starts : start ≡ start_of h orders
-  pub book : BookOf h (filed_in h orders) b
 
 -- round k is to be run, and its words go to the place at
 pub record Running (ws : List ℕ) (h : Heading) (before space : List ℕ) (start : Start) (at k : ℕ) : Type 0 where
@@ -64,25 +43,31 @@ pub record Running (ws : List ℕ) (h : Heading) (before space : List ℕ) (star
   pub place : at ≡ k * (count ws + 4)
   pub holds : space ≡ rounds_words (listed (opening_round ws) k) ++ drop at before
 
-module _ {ws : List ℕ} {h : Heading} {orders : List Order} (a : AcceptedAs ws h orders) where
+-- the room that is left before round k of an opening of n orders: the stretch of the round ends before the space does
+pub record Room (n long at k : ℕ) : Type 0 where
+  pub ends : at + round_space n < long
+  pub short : at + round_space n ≤ 15004
+  pub few : k ≤ 120
+
+module _ {ws : List ℕ} {s : Sheet} (a : AcceptedAs ws s) where
   band : D (heading_of ws) ≤ H (heading_of ws)
   band = sound_band (sound a)
 
   -- before the first round
-  pub running_none : (before : List ℕ) → Running ws h before before (start_of h orders) 0 0
+  pub running_none : (before : List ℕ) → Running ws s.heading before before (start_of s.heading s.orders) 0 0
   unfolding rules_start start_of start_at first_start listed rounds_words
   running_none before = record {
-    starts = rw (remaining_first h orders, orders_are a, a.headed);
+    starts = rw (remaining_first s.heading s.orders, orders_are a, a.headed);
     goes = λ j l. absurd (omega arith);
     place = omega arith;
     holds = refl;
   }
 
-  module _ {before space : List ℕ} {start : Start} {at k : ℕ} (v : Running ws h before space start at k) where
+  module _ {before space : List ℕ} {start : Start} {at k : ℕ} (v : Running ws s.heading before space start at k) where
     -- ---- The room
 
     -- the stretch of round k ends before the words that are needed do
-    stretch : at + round_space h.count < opening_space h.count
+    stretch : at + round_space s.heading.count < opening_space s.heading.count
     stretch =
         let few : k ≤ count ws = omega (arith, few_rounds ws band k v.goes) in
         let most : k * (count ws + 4) ≤ count ws * (count ws + 4) = mul-le-mul_right {m = k} {n = count ws} (count ws + 4) few in
@@ -90,27 +75,22 @@ module _ {ws : List ℕ} {h : Heading} {orders : List Order} (a : AcceptedAs ws 
         rw (add-one (count ws)) (suc-mul (count ws) (count ws + 4)) in
         rw (count-is a) (omega (arith, v.place))
 
-    pub room : opening_space h.count ≤ length before → at + round_space h.count < length before
-    room enough = le_trans stretch enough
-
-    pub few_run : k ≤ 120
-    few_run = omega (arith, few_rounds ws band k v.goes, (sound a).heading.count)
-
-    pub few_words : at + round_space h.count ≤ 15004
-    few_words =
-        let few : h.count ≤ 120 = omega (arith, count-is a, (sound a).heading.count) in
-        omega (arith, stretch, most_space h.count few)
+    pub room : opening_space s.heading.count ≤ length before → Room s.heading.count (length before) at k
+    room enough =
+        let few : s.heading.count ≤ 120 = omega (arith, count-is a, (sound a).heading.count) in
+        record {
+          ends = le_trans stretch enough;
+          short = omega (arith, stretch, most_space s.heading.count few);
+          few = omega (arith, few_rounds ws band k v.goes, (sound a).heading.count);
+        }
 
     words_long : length (rounds_words (listed (opening_round ws) k)) ≡ at
     words_long = words_count ws k ∙ sym v.place
 
-    pub space_long : at ≤ length before → length space ≡ length before
-    space_long low = ap length v.holds ∙ rw (length-append, length-drop, words_long) (omega arith)
-
     -- ---- The round
 
     -- what remains is no more than the quantities
-    pub round_ranged : Ranged h (filed_in h orders) start.remaining
+    pub round_ranged : Ranged s.heading (filed_in s.heading s.orders) start.remaining
     unfolding rules_start
     round_ranged =
         sheet_ranged a start.remaining
@@ -118,57 +98,57 @@ module _ {ws : List ℕ} {h : Heading} {orders : List Order} (a : AcceptedAs ws 
         let own : j < count ws = omega (arith, ap length (orders_are a), count-orders ws) in
         let most = ((sound a).orders j no_order own).most in
         let left : get_or (opening_start ws k).remaining j 0 ≤ (filed (orders_of ws) j).quantity.0 = (sound_start ws (sound a) k).pieces j own in
-        let same : get_or (remaining_in h start.remaining) j 0 ≡ get_or (opening_start ws k).remaining j 0 =
-        ap (λ (s : RulesStart). get_or s.remaining j 0) v.starts in
-        omega (arith, remaining_at h start.remaining j (omega (arith, count-is a))))
+        let same : get_or (remaining_in s.heading start.remaining) j 0 ≡ get_or (opening_start ws k).remaining j 0 =
+        ap (λ (r : RulesStart). get_or r.remaining j 0) v.starts in
+        omega (arith, remaining_at s.heading start.remaining j (omega (arith, count-is a))))
 
     module _ (r : declared.Round)
-        (given : handed_back r ≡ with_places (round_of h start.last.0 (standing h (filed_in h orders) (remaining_in h start.remaining)))) where
+        (given : handed_back r ≡ with_places (round_of s.heading start.last.0 (standing s.heading (filed_in s.heading s.orders) (remaining_in s.heading start.remaining)))) where
       -- what is handed back is the rules' round of that number
       handed : handed_back r ≡ with_places (opening_round ws k)
       unfolding round_from rules_start
       handed = rw (← v.starts, ← orders_are a, ← a.headed) given
 
-      pub round_is : of_orders h.count r ≡ opening_round ws k
-      round_is = of_orders_lem h.count (opening_round ws k) r (fills_count_lem ws k ∙ sym (count-is a)) handed
+      pub round_is : of_orders s.heading.count r ≡ opening_round ws k
+      round_is = of_orders_lem s.heading.count (opening_round ws k) r (fills_count_lem ws k ∙ sym (count-is a)) handed
 
-      pub round_fits : FitsWords (of_orders h.count r)
+      pub round_fits : FitsWords (of_orders s.heading.count r)
       round_fits = rw round_is (number_fits ws (sound a) k)
 
       -- ---- The space with the round in it
 
       -- the part lent to the writer, put back with the words of the round
-      pub with_round : {last : List ℕ} → last ≡ round_words (of_orders h.count r)
-          → take at space ++ (last ++ drop (at + round_space h.count - at) (drop at space))
-          ≡ rounds_words (listed (opening_round ws) (suc k)) ++ drop (at + round_space h.count) before
+      pub with_round : {last : List ℕ} → last ≡ round_words (of_orders s.heading.count r)
+          → take at space ++ (last ++ drop (at + round_space s.heading.count - at) (drop at space))
+          ≡ rounds_words (listed (opening_round ws) (suc k)) ++ drop (at + round_space s.heading.count) before
       with_round {last} e =
           let W : List ℕ = rounds_words (listed (opening_round ws) k) in
-          let size : at + round_space h.count - at ≡ round_space h.count = omega arith in
+          let size : at + round_space s.heading.count - at ≡ round_space s.heading.count = omega arith in
           let front : take at space ≡ W = rw v.holds (take_at W (drop at before) at words_long) in
           let behind : drop at space ≡ drop at before = rw v.holds (drop_at W (drop at before) at words_long) in
-          let rest : drop (round_space h.count) (drop at before) ≡ drop (at + round_space h.count) before =
-          drop-drop (round_space h.count) at before in
+          let rest : drop (round_space s.heading.count) (drop at before) ≡ drop (at + round_space s.heading.count) before =
+          drop-drop (round_space s.heading.count) at before in
           rw (size, front, behind, rest, e, round_is, words_more (opening_round ws) k)
-          (sym (append_assoc W (round_words (opening_round ws k)) (drop (at + round_space h.count) before)))
+          (sym (append_assoc W (round_words (opening_round ws k)) (drop (at + round_space s.heading.count) before)))
 
-      place_next : at + round_space h.count ≡ suc k * (count ws + 4)
+      place_next : at + round_space s.heading.count ≡ suc k * (count ws + 4)
       place_next = rw (suc-mul k (count ws + 4)) (omega (arith, v.place, count-is a))
 
-      on_or_not : {t : Bool} → goes_on h (handed_back r) ≡ t → goes_on (heading_of ws) (opening_round ws k) ≡ t
+      on_or_not : {t : Bool} → goes_on s.heading (handed_back r) ≡ t → goes_on (heading_of ws) (opening_round ws k) ≡ t
       unfolding goes_on
       on_or_not e = rw (← round_is, ← a.headed) e
 
       -- what the round leaves is the rules' next start
-      next_start : rules_start h (start_after start r) ≡ after (opening_start ws k) (opening_round ws k)
+      next_start : rules_start s.heading (start_after start r) ≡ after (opening_start ws k) (opening_round ws k)
       next_start =
-          let few : h.count ≤ 120 = omega (arith, (sound a).heading.count, count-is a) in
-          let long : length (rules_start h start).remaining ≡ h.count = rw v.starts (start_long ws k ∙ sym (count-is a)) in
-          start_after_lem h start r few long ∙ rw (v.starts, round_is)
+          let few : s.heading.count ≤ 120 = omega (arith, (sound a).heading.count, count-is a) in
+          let long : length (rules_start s.heading start).remaining ≡ s.heading.count = rw v.starts (start_long ws k ∙ sym (count-is a)) in
+          start_after_lem s.heading start r few long ∙ rw (v.starts, round_is)
 
       -- after a round that goes on
-      pub running_on : goes_on h (handed_back r) ≡ true → {after : List ℕ}
-          → after ≡ rounds_words (listed (opening_round ws) (suc k)) ++ drop (at + round_space h.count) before
-          → Running ws h before after (start_after start r) (at + round_space h.count) (k + 1)
+      pub running_on : goes_on s.heading (handed_back r) ≡ true → {after : List ℕ}
+          → after ≡ rounds_words (listed (opening_round ws) (suc k)) ++ drop (at + round_space s.heading.count) before
+          → Running ws s.heading before after (start_after start r) (at + round_space s.heading.count) (k + 1)
       unfolding start_at
       running_on on holds =
           rw (add-one k)
@@ -180,19 +160,19 @@ module _ {ws : List ℕ} {h : Heading} {orders : List Order} (a : AcceptedAs ws 
           })
 
       -- and fewer orders have pieces left
-      pub fewer_left : goes_on h (handed_back r) ≡ true → live (rules_start h (start_after start r)) < live (rules_start h start)
+      pub fewer_left : goes_on s.heading (handed_back r) ≡ true → live (rules_start s.heading (start_after start r)) < live (rules_start s.heading start)
       fewer_left on =
           rw (next_start, v.starts)
           (leaves_fewer ws band (opening_start ws k) (start_long ws k ∙ sym (count-orders ws)) (on_or_not on))
 
       -- after the last round, with its ending and the number of rounds behind it
-      pub ran : goes_on h (handed_back r) ≡ false → {after : List ℕ}
-          → after ≡ rounds_words (listed (opening_round ws) (suc k)) ++ drop (at + round_space h.count) before
-          → at + round_space h.count < length before → {ending w : ℕ} → ending ≡ ending_after h (handed_back r)
-          → w ≡ word 15 (ending * 65536 + (k + 1)) → Ran ws before (set after (at + round_space h.count) w) (at + round_space h.count + 1)
+      pub ran : goes_on s.heading (handed_back r) ≡ false → {after : List ℕ}
+          → after ≡ rounds_words (listed (opening_round ws) (suc k)) ++ drop (at + round_space s.heading.count) before
+          → at + round_space s.heading.count < length before → {ending w : ℕ} → ending ≡ ending_after s.heading (handed_back r)
+          → w ≡ word 15 (ending * 65536 + (k + 1)) → Ran ws before (set after (at + round_space s.heading.count) w) (at + round_space s.heading.count + 1)
       unfolding ending_after
       ran off {after} holds inside {ending} {w} ended e =
-          let N : ℕ = at + round_space h.count in
+          let N : ℕ = at + round_space s.heading.count in
           let W : List ℕ = rounds_words (listed (opening_round ws) (suc k)) in
           let long : length W ≡ N = words_count ws (suc k) ∙ sym place_next in
           let ending-is : ending ≡ ending_after (heading_of ws) (opening_round ws k) = rw (← round_is, ← a.headed) ended in

@@ -6,45 +6,43 @@ pub mod start;
 
 ghost use Rattle.std.specs.Prelude.{List, ℕ, ◌≤◌, length};
 ghost use Rattle.rules.specs.Opening.{opening_space};
-ghost use Rattle.run.specs.Accepted.{AcceptedAs, OfSheet};
 ghost use Rattle.run.specs.Starts.{Ran};
+ghost use Rattle.sheet.specs.Reading.{AcceptedAs, OfSheet};
 
 use book::entering::book_of;
 use ending::{ending_after, goes_on};
 use round::round_of;
 use round::writing::write_round;
-use rules::{Heading, Order};
-use start::{after, first_start};
-use words::word;
+use rules::Sheet;
+use start::Start;
+use words::{Kind, word};
 
 // Runs the rounds of an opening by the sheet's book, each into its own stretch of the space, and writes
 // the last word behind them. Hands back how many words were written.
-pub fn run_rounds(heading: Heading, orders: [Order; 120], space: &mut [u32]) -> usize
-    requires { OfSheet heading orders × (opening_space heading.count ≤ length space.old) }
-    ensures { (ws : List ℕ) → AcceptedAs ws heading orders → Ran ws space.old space.new result }
+pub fn run_rounds(sheet: &Sheet, space: &mut [u32]) -> usize
+    requires { OfSheet sheet.now × (opening_space sheet.now.heading.count ≤ length space.old) }
+    ensures { (ws : List ℕ) → AcceptedAs ws sheet.now → Ran ws space.old space.new result }
 {
+    let heading = sheet.heading;
     let count = heading.count;
     let size = 4 + count;
-    let book = book_of(heading, orders);
-    let buys = book.buys;
-    let bids = book.bids;
-    let sells = book.sells;
-    let asks = book.asks;
-    let mut start = first_start(heading, orders);
+    let book = book_of(sheet);
+    let mut start = Start::first(sheet);
     let mut at: usize = 0;
     let mut rounds: u32 = 0;
+    // A `loop`: the round alone says whether another follows, and where it ends the next stretch or the last word begins.
+    // A `for` up to n + 1 would need an end behind it that is never reached.
     loop {
-        let last = start.last;
-        let remaining = start.remaining;
-        let round = round_of(heading, last, remaining, &bids[..buys], &asks[..sells]);
+        let round = round_of(heading, start.last, &start.remaining, &book);
         let end = at + size;
-        write_round(&mut space[at..end], round, count);
+        write_round(&mut space[at..end], &round, count);
         at = end;
         rounds += 1;
-        if !goes_on(heading, round) {
-            space[at] = word(15, ending_after(heading, round) * 65536 + rounds);
+        if !goes_on(heading, &round) {
+            let ending = ending_after(heading, &round).number();
+            space[at] = word(Kind::Ending as u32, ending * 65536 + rounds);
             return at + 1;
         }
-        start = after(start, round);
+        start = start.after(&round);
     }
 }

@@ -11,14 +11,14 @@ use native.Mathlib.Omega.{arith}
 use lib.Dec.{eqb}
 use lib.ListN.{length, set, replicate, length-replicate}
 use borrow.Author.Tests.{eqb-true}
-use Rattle.rules.specs.Answers.{gives, refuses, verdict, fault_number, refusal_number, refusal_place}
-use Rattle.rules.specs.Sheet.{Layout, order_place, with_step, layout_for, layout_of, step_word, heading_from, heading_of, order_from, order_at, checks_in, orders_of, heading_checks, orders_checks, sheet_checks, check_sheet, most_orders, AcceptedSheet}
+use Rattle.std.specs.Prelude.{Ok, Err}
+use Rattle.rules.specs.Answers.{gives, verdict, fault_number, refusal_number, refusal_place, refused}
+use Rattle.rules.specs.Sheet.{Layout, order_place, with_step, layout_for, layout_of, step_word, heading_from, heading_of, order_at, checks_in, orders_of, heading_checks, orders_checks, sheet_checks, check_sheet, most_orders, AcceptedSheet}
 use Rattle.rules.proofs.Accepted.{heading_passes}
 use Rattle.rules.proofs.Downwards.{Clear, Stops, given_clear, refused_stops, nothing_left, clear_append, stops_first, stops_after}
 use Rattle.rules.proofs.Tests.{by_test}
 use Rattle.rules.specs.Words.{word_at}
 use Rattle.rules.proofs.Painting.{Painted, painted_none, painted_more, painted_first}
-use Rattle.rules.specs.declared.Checked.TheVariants.{Accepted}
 use Rattle.rules.specs.declared.Heading.{Heading}
 use Rattle.rules.specs.declared.Order.{Order}
 use Rattle.rules.specs.declared.OrderFault.{OrderFault}
@@ -26,17 +26,10 @@ use Rattle.rules.specs.declared.Refusal.{Refusal}
 use Rattle.rules.specs.declared.Word.{Word}
 use Rattle.rules.specs.declared.Refusal.TheVariants.{Order as OrderRefusal}
 use Rattle.rules.specs.Limits.{no_order}
-use Rattle.sheet.specs.Reading.{heading_read, places_read, ReadsAs}
-use Rattle.sheet.specs.Steps.{heading_words_of, step_word_read, order_words_at, refused_reading, HeadingReadsAs, OrderCheckedAs, OrderReadsAs}
+use Rattle.sheet.specs.Reading.{places_read, AcceptedAs}
+use Rattle.sheet.specs.Steps.{heading_words_of, step_word_read, HeadingReadsAs, OrderReadsAs}
 use Rattle.words.specs.declared.cursor.Cursor.{Cursor}
-use Rattle.sheet.specs.declared.heading.HeadingRead.{HeadingRead}
-use Rattle.sheet.specs.declared.heading.HeadingRead.TheVariants.{Passed as PassedHeading, Refused as RefusedHeading}
 use Rattle.sheet.specs.declared.heading.HeadingWords.{HeadingWords}
-use Rattle.sheet.specs.declared.orders.OrderChecked.{OrderChecked}
-use Rattle.sheet.specs.declared.orders.OrderChecked.TheVariants.{Passed as PassedChecks, Faulty as FaultyChecks}
-use Rattle.sheet.specs.declared.orders.OrderRead.{OrderRead}
-use Rattle.sheet.specs.declared.orders.OrderRead.TheVariants.{Passed as PassedOrder, Faulty as FaultyOrder}
-use Rattle.sheet.specs.declared.orders.OrderWords.{OrderWords}
 
 -- ---- the layout and the heading
 
@@ -77,16 +70,14 @@ said_of wrong e told out = sym (ap wrong e) ∙ sym told ∙ out
 
 -- ---- a refused sheet
 
--- a table that stops makes the sheet refused, and nothing is handed on
-pub refused_reading_lem : (ws : List ℕ) (r : Refusal) → Stops (sheet_checks ws) (refusal_number r) (refusal_place r) → ReadsAs ws (refused_reading r)
-unfolding check_sheet heading_read places_read
-refused_reading_lem ws r p =
-    let e : check_sheet ws ≡ refuses (refusal_number r) (refusal_place r) = p.refuses_all (gives []) in
-    record { checked = sym e; heading = rw e; orders = rw e }
+-- a table that stops makes the sheet refused
+pub refused_sheet : (ws : List ℕ) (r : Refusal) → Stops (sheet_checks ws) (refusal_number r) (refusal_place r) → check_sheet ws ≡ refused r
+unfolding check_sheet
+refused_sheet ws r p = p.refuses_all (gives [])
 
-pub refused_heading : (ws : List ℕ) {h : HeadingRead} {r : Refusal} → HeadingReadsAs ws h → h ≡ RefusedHeading r → ReadsAs ws (refused_reading r)
+pub refused_heading : (ws : List ℕ) (r : Refusal) → HeadingReadsAs ws (Err r) → check_sheet ws ≡ refused r
 unfolding sheet_checks
-refused_heading ws {h} {r} reads e = refused_reading_lem ws r (stops_first _ (refused_stops (heading_checks ws) [] (rw e at reads)))
+refused_heading ws r reads = refused_sheet ws r (stops_first _ (refused_stops (heading_checks ws) [] reads))
 
 -- ---- an order
 
@@ -95,14 +86,6 @@ two_on n = omega arith
 
 pub three_on : (n : ℕ) → n + 2 + 1 ≡ n + 3
 three_on n = omega arith
-
-pub passed_order : (ws : List ℕ) (at : ℕ) {t : OrderWords} {r : OrderChecked} {o : Order} → t ≡ order_words_at ws at → OrderCheckedAs t r
-    → r ≡ PassedChecks → o ≡ order_from t.first t.second t.third → OrderReadsAs ws at (PassedOrder o t.next)
-passed_order ws at e checked p made = (rw e at (rw p at checked), rw e at made, ap (λ (t : OrderWords). t.next.at) e)
-
-pub faulty_order : (ws : List ℕ) (at : ℕ) {t : OrderWords} {r : OrderChecked} {f : OrderFault} → t ≡ order_words_at ws at → OrderCheckedAs t r
-    → r ≡ FaultyChecks f → OrderReadsAs ws at (FaultyOrder f)
-faulty_order ws at e checked p = rw e at (rw p at checked)
 
 -- ---- the orders, read one after the other
 
@@ -116,7 +99,7 @@ pub record SoFar (ws : List ℕ) (count : ℕ) (orders : List Order) (cursor : C
   pub places : Painted (order_at ws) (replicate most_orders no_order) orders i
   pub clear : Clear (orders_checks ws i)
 
-pub so_far_none : (ws : List ℕ) {heading : Heading} {start : Cursor} {none : Order} → HeadingReadsAs ws (PassedHeading heading start)
+pub so_far_none : (ws : List ℕ) {heading : Heading} {start : Cursor} {none : Order} → HeadingReadsAs ws (Ok (heading, start))
     → none ≡ no_order → SoFar ws heading.count (replicate most_orders none) start 0
 unfolding orders_checks
 so_far_none ws {heading} reads e =
@@ -146,11 +129,10 @@ module _ (ws : List ℕ) {count : ℕ} {orders : List Order} {cursor : Cursor} {
   at_order : cursor.at ≡ order_place (layout_of ws) i
   at_order = so_far.place ∙ sym (place_in (word_at ws 4).value (length ws) i)
 
-  pub so_far_more : {r : OrderRead} {o : Order} {next : Cursor} → i < count → OrderReadsAs ws cursor.at r → r ≡ PassedOrder o next
+  pub so_far_more : {o : Order} {next : Cursor} → i < count → OrderReadsAs ws cursor.at (Ok (o, next))
       → SoFar ws count (set orders i o) next (i + 1)
   unfolding orders_checks order_at
-  so_far_more {r} {o} more reads e =
-      let order = rw e at reads in
+  so_far_more {o} more order =
       let made : o ≡ order_at ws i = rw at_order at order.1 in
       let checked : Clear (checks_in ws (order_place (layout_of ws) i) i) =
       given_clear (checks_in ws (order_place (layout_of ws) i) i) (gives []) (rw at_order at (order.0 i)) in
@@ -165,19 +147,19 @@ module _ (ws : List ℕ) {count : ℕ} {orders : List Order} {cursor : Cursor} {
         clear = rw (add-one i) (clear_append so_far.clear checked);
       }
 
-  pub faulty_reading : {r : OrderRead} {f : OrderFault} → verdict (heading_checks ws) ≡ gives [] → i < count → OrderReadsAs ws cursor.at r
-      → r ≡ FaultyOrder f → ReadsAs ws (refused_reading (OrderRefusal f i))
+  pub faulty_reading : (f : OrderFault) → verdict (heading_checks ws) ≡ gives [] → i < count → OrderReadsAs ws cursor.at (Err f)
+      → check_sheet ws ≡ refused (OrderRefusal f i)
   unfolding orders_checks sheet_checks
-  faulty_reading {r} {f} heading more reads e =
-      let fault = refused_stops (checks_in ws (order_place (layout_of ws) i) i) [] (rw at_order at ((rw e at reads) i)) in
+  faulty_reading f heading more reads =
+      let fault = refused_stops (checks_in ws (order_place (layout_of ws) i) i) [] (rw at_order at (reads i)) in
       let stopped : Stops (orders_checks ws (suc i)) (fault_number f) i = stops_after so_far.clear fault in
       let n = so_far.counted in
-      refused_reading_lem ws (OrderRefusal f i) (stops_after (given_clear (heading_checks ws) (gives []) heading) (stops_later ws (suc i) (heading_of ws).count (omega arith) stopped))
+      refused_sheet ws (OrderRefusal f i) (stops_after (given_clear (heading_checks ws) (gives []) heading) (stops_later ws (suc i) (heading_of ws).count (omega arith) stopped))
 
-  pub accepted_reading : {heading : Heading} {start : Cursor} → HeadingReadsAs ws (PassedHeading heading start) → count ≤ i
-      → ReadsAs ws (record { checked = Accepted; heading = heading; orders = orders })
-  unfolding check_sheet sheet_checks heading_read places_read orders_of
+  pub accepted_reading : {heading : Heading} {start : Cursor} → HeadingReadsAs ws (Ok (heading, start)) → count ≤ i
+      → AcceptedAs ws (record { heading = heading; orders = orders })
+  unfolding check_sheet sheet_checks places_read orders_of
   accepted_reading reads done =
       let last : i ≡ (heading_of ws).count = omega (arith, so_far.few, so_far.counted) in
       let e : AcceptedSheet ws = (clear_append (given_clear (heading_checks ws) (gives []) reads.0) (rw last at so_far.clear)).hands_on (gives []) in
-      record { checked = sym e; heading = rw e reads.1; orders = rw e (rw last at (painted_first no_order most_orders so_far.places)) }
+      record { passes = e; headed = reads.1; placed = rw last at (painted_first no_order most_orders so_far.places) }

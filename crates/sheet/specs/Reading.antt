@@ -1,45 +1,29 @@
--- What the reading of a sheet hands on to the calls that go on from it. Serves [3.14].
-use Rattle.std.specs.Prelude.{List, ◌++◌, ◌≡◌, ℕ, ◌-◌, replicate}
-use Rattle.rules.specs.Answers.{Answer, gives, refuses, check_answer}
+-- What an accepted sheet says, for the promises of all calls that go on from its reading. Serves [3.14].
+use Rattle.std.specs.Prelude.{List, ◌++◌, ◌≡◌, ℕ, ◌-◌, replicate, Ok, Err}
+use Rattle.std.specs.declared.result.Result.{Result}
+use Rattle.rules.specs.Answers.{refused}
 use Rattle.rules.specs.Limits.{no_order}
-use Rattle.rules.specs.Sheet.{most_orders, heading_of, orders_of, check_sheet}
-use Rattle.rules.specs.declared.Heading.{Heading}
+use Rattle.rules.specs.Sheet.{most_orders, heading_of, orders_of, check_sheet, AcceptedSheet}
 use Rattle.rules.specs.declared.Order.{Order}
-use Rattle.sheet.specs.declared.Reading.{Reading}
+use Rattle.rules.specs.declared.Refusal.{Refusal}
+use Rattle.rules.specs.declared.Sheet.{Sheet}
 
--- One value where a call gives something, another where it refuses.
-abbrev pub when_given : {A : Type 0} → Answer → A → A → A
-when_given (gives vs) x y = x
-when_given (refuses n k) x y = y
-
-abbrev pub no_heading : Heading
-no_heading = record {
-  lower = record { 0 = 0 };
-  upper = record { 0 = 0 };
-  last = record { 0 = 0 };
-  indicative = record { 0 = 0 };
-  count = 0;
-  step = record { 0 = 0 };
-}
-
--- The heading of an accepted sheet; of a refused one none.
-unfoldable pub heading_read : List ℕ → Heading
-heading_read ws = when_given (check_sheet ws) (heading_of ws) no_heading
-
--- 120 places: the orders of an accepted sheet, and then places that hold none; of a refused one no order.
+-- 120 places: the orders of the sheet, and then places that hold none.
 unfoldable pub places_read : List ℕ → List Order
-places_read ws =
-    when_given (check_sheet ws)
-    (orders_of ws ++ replicate (most_orders - (heading_of ws).count) no_order)
-    (replicate most_orders no_order)
+places_read ws = orders_of ws ++ replicate (most_orders - (heading_of ws).count) no_order
 
--- A reading of the sheet ws: the answer of its check, its heading and its places.
-pub record ReadsAs (ws : List ℕ) (r : Reading) : Type 0 where
-  pub checked : check_answer r.checked ≡ check_sheet ws
-  pub heading : r.heading ≡ heading_read ws
-  pub orders : r.orders ≡ places_read ws
+-- The sheet ws is accepted, and this is what it says: its heading, and its orders in their places.
+pub record AcceptedAs (ws : List ℕ) (s : Sheet) : Type 0 where
+  pub passes : AcceptedSheet ws
+  pub headed : s.heading ≡ heading_of ws
+  pub placed : s.orders ≡ places_read ws
 
--- It is the reading of some sheet.
-pub record OfWords (r : Reading) : Type 0 where
+-- It is what some accepted sheet says.
+pub record OfSheet (s : Sheet) : Type 0 where
   pub words : List ℕ
-  pub reads : ReadsAs words r
+  pub accepted : AcceptedAs words s
+
+-- A reading of the sheet ws: what it says, or its refusal.
+abbrev pub ReadsAs : List ℕ → Result Sheet Refusal → Type 0
+ReadsAs ws (Ok s) = AcceptedAs ws s
+ReadsAs ws (Err r) = check_sheet ws ≡ refused r

@@ -1,28 +1,18 @@
 -- The steps of the reading, for the promises inside this crate: what each finds, in the terms of the rules. Serves [3.12] and [3.13].
-use Rattle.std.specs.Prelude.{Bool, not, List, [], ◌≡◌, ℕ, ◌+◌, replicate}
+use Rattle.std.specs.Prelude.{Bool, not, List, [], ◌≡◌, ℕ, ◌+◌, Ok, Err}
+use Rattle.std.specs.declared.result.Result.{Result}
 use Rattle.rules.specs.Answers.{gives, refuses, verdict, fault_number, refused}
-use Rattle.rules.specs.Sheet.{plain, layout_of, step_word, heading_kinds, prices_on_grid, band_encloses, step_allowed, length_fits, most_orders, heading_of, order_in, heading_checks, order_checks, checks_in}
+use Rattle.rules.specs.Sheet.{plain, layout_of, step_word, heading_kinds, prices_on_grid, band_encloses, step_allowed, length_fits, heading_of, order_in, heading_checks, order_checks, checks_in}
 use Rattle.rules.specs.Words.{word_at}
-use Rattle.rules.specs.declared.Checked.TheVariants.{Refused as RefusedSheet}
 use Rattle.rules.specs.declared.Heading.{Heading}
+use Rattle.rules.specs.declared.Order.{Order}
+use Rattle.rules.specs.declared.OrderFault.{OrderFault}
 use Rattle.rules.specs.declared.Refusal.{Refusal}
 use Rattle.rules.specs.declared.Word.{Word}
-use Rattle.rules.specs.Limits.{no_order}
-use Rattle.sheet.specs.Reading.{no_heading}
-use Rattle.sheet.specs.declared.Reading.{Reading}
-use Rattle.sheet.specs.declared.heading.HeadingRead.{HeadingRead}
-use Rattle.sheet.specs.declared.heading.HeadingRead.TheVariants.{Passed as PassedHeading, Refused as RefusedHeading}
 use Rattle.sheet.specs.declared.heading.HeadingWords.{HeadingWords}
-use Rattle.sheet.specs.declared.orders.OrderChecked.{OrderChecked}
-use Rattle.sheet.specs.declared.orders.OrderChecked.TheVariants.{Passed as PassedChecks, Faulty as FaultyChecks}
-use Rattle.sheet.specs.declared.orders.OrderRead.{OrderRead}
-use Rattle.sheet.specs.declared.orders.OrderRead.TheVariants.{Passed as PassedOrder, Faulty as FaultyOrder}
 use Rattle.sheet.specs.declared.orders.OrderWords.{OrderWords}
+use Rattle.words.specs.declared.cursor.Cursor.{Cursor}
 use Rattle.words.specs.declared.cursor.Step.{Step}
-
--- The reading of a refused sheet.
-abbrev pub refused_reading : Refusal → Reading
-refused_reading r = record { checked = RefusedSheet r; heading = no_heading; orders = replicate most_orders no_order }
 
 -- The first five words of the heading, and the place after them.
 abbrev pub heading_words_of : List ℕ → HeadingWords
@@ -56,10 +46,10 @@ abbrev pub wrong_length : ℕ → Heading → Bool
 wrong_length words h = not (length_fits h.count words)
 
 -- A heading that passes is the sheet's, and none of its checks arises; one that is refused stops with its refusal.
-abbrev pub HeadingReadsAs : List ℕ → HeadingRead → Type 0
-HeadingReadsAs ws (PassedHeading h next) =
+abbrev pub HeadingReadsAs : List ℕ → Result (Heading × Cursor) Refusal → Type 0
+HeadingReadsAs ws (Ok (h, next)) =
     (verdict (heading_checks ws) ≡ gives []) × (h ≡ heading_of ws) × (next.at ≡ (layout_of ws).heading)
-HeadingReadsAs ws (RefusedHeading r) = verdict (heading_checks ws) ≡ refused r
+HeadingReadsAs ws (Err r) = verdict (heading_checks ws) ≡ refused r
 
 -- The three words from a place on, and the place after them.
 abbrev pub order_words_at : List ℕ → ℕ → OrderWords
@@ -71,12 +61,12 @@ order_words_at ws at = record {
 }
 
 -- An order's checks, whatever its number: none arises, or they stop with its fault.
-abbrev pub OrderCheckedAs : OrderWords → OrderChecked → Type 0
-OrderCheckedAs t PassedChecks = (k : ℕ) → verdict (order_checks k t.first t.second t.third) ≡ gives []
-OrderCheckedAs t (FaultyChecks f) = (k : ℕ) → verdict (order_checks k t.first t.second t.third) ≡ refuses (fault_number f) k
+abbrev pub OrderCheckedAs : OrderWords → Result (Unit {0}) OrderFault → Type 0
+OrderCheckedAs t (Ok tt) = (k : ℕ) → verdict (order_checks k t.first t.second t.third) ≡ gives []
+OrderCheckedAs t (Err f) = (k : ℕ) → verdict (order_checks k t.first t.second t.third) ≡ refuses (fault_number f) k
 
 -- The same of the order at a place; one that passes is what its three words say.
-abbrev pub OrderReadsAs : List ℕ → ℕ → OrderRead → Type 0
-OrderReadsAs ws at (PassedOrder o next) =
+abbrev pub OrderReadsAs : List ℕ → ℕ → Result (Order × Cursor) OrderFault → Type 0
+OrderReadsAs ws at (Ok (o, next)) =
     ((k : ℕ) → verdict (checks_in ws at k) ≡ gives []) × (o ≡ order_in ws at) × (next.at ≡ at + 3)
-OrderReadsAs ws at (FaultyOrder f) = (k : ℕ) → verdict (checks_in ws at k) ≡ refuses (fault_number f) k
+OrderReadsAs ws at (Err f) = (k : ℕ) → verdict (checks_in ws at k) ≡ refuses (fault_number f) k

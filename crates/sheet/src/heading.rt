@@ -5,6 +5,7 @@ ghost use Rattle.sheet.specs.Steps.{heading_words_of, step_word_read, wrong_kind
 
 use crate::{HEADING_WORDS, ORDER_WORDS};
 use rules::{Heading, Price, QuotationStep, Refusal, Word, on_grid};
+use words::Kind;
 use words::cursor::{Cursor, Step};
 
 // The first five words of a heading, and the place after them.
@@ -18,13 +19,6 @@ pub(crate) struct HeadingWords {
     pub next: Cursor,
 }
 
-// The heading and the place after it, or why it is refused.
-#[derive(Clone, Copy)]
-pub(crate) enum HeadingRead {
-    Passed(Heading, Cursor),
-    Refused(Refusal),
-}
-
 fn read_heading_words(words: &[u32]) -> HeadingWords
     requires { plain.heading ≤ length words.now }
     ensures { result ≡ heading_words_of words.now }
@@ -34,19 +28,13 @@ fn read_heading_words(words: &[u32]) -> HeadingWords
     let last = upper.next.step(words);
     let indicative = last.next.step(words);
     let count = indicative.next.step(words);
-    let a = lower.word;
-    let b = upper.word;
-    let c = last.word;
-    let d = indicative.word;
-    let e = count.word;
-    let next = count.next;
     HeadingWords {
-        lower: a,
-        upper: b,
-        last: c,
-        indicative: d,
-        count: e,
-        next,
+        lower: lower.word,
+        upper: upper.word,
+        last: last.word,
+        indicative: indicative.word,
+        count: count.word,
+        next: count.next,
     }
 }
 
@@ -66,25 +54,27 @@ fn read_step_word(words: &[u32], five: HeadingWords) -> Step
     requires { five ≡ heading_words_of words.now }
     ensures { result ≡ step_word_read words.now }
 {
-    let next = five.next;
     if heading_words(words.len(), five.count.value as usize) == HEADING_WORDS {
         return Step {
-            word: Word { kind: 0, value: 1 },
-            next,
+            word: Word {
+                kind: Kind::Step as u32,
+                value: 1,
+            },
+            next: five.next,
         };
     }
-    next.step(words)
+    five.next.step(words)
 }
 
 // Refusal 2: a wrong kind in words 0 to 4.
 fn wrong_kinds(five: HeadingWords) -> bool
     ensures { result ≡ wrong_kinds five }
 {
-    !((five.lower.kind == 1)
-        & (five.upper.kind == 2)
-        & (five.last.kind == 3)
-        & (five.indicative.kind == 4)
-        & (five.count.kind == 5))
+    !((five.lower.kind == Kind::Lower as u32)
+        & (five.upper.kind == Kind::Upper as u32)
+        & (five.last.kind == Kind::Last as u32)
+        & (five.indicative.kind == Kind::Indicative as u32)
+        & (five.count.kind == Kind::Count as u32))
 }
 
 fn heading_from(five: HeadingWords, sixth: Word) -> Heading
@@ -121,26 +111,23 @@ fn wrong_band(heading: Heading) -> bool
 fn wrong_step(sixth: Word) -> bool
     ensures { result ≡ wrong_step sixth }
 {
-    !((sixth.kind == 0) & (1 <= sixth.value) & (sixth.value <= 1000))
+    !((sixth.kind == Kind::Step as u32) & (1 <= sixth.value) & (sixth.value <= 1000))
 }
 
 // Refusal 4, by clause 3.5.
 fn wrong_length(heading: Heading, words: usize) -> bool
     ensures { result ≡ wrong_length words heading }
 {
-    let count = heading.count;
-    if 120 < count {
-        return true;
-    }
-    words != heading_words(words, count) + ORDER_WORDS * count
+    (120 < heading.count)
+        || (words != heading_words(words, heading.count) + ORDER_WORDS * heading.count)
 }
 
-// Reads the heading. Its checks run downwards.
-pub(crate) fn read_heading(words: &[u32]) -> HeadingRead
+// Reads the heading, and hands on the place after it. Its checks run downwards.
+pub(crate) fn read_heading(words: &[u32]) -> Result<(Heading, Cursor), Refusal>
     ensures { HeadingReadsAs words.now result }
 {
     if words.len() < HEADING_WORDS {
-        return HeadingRead::Refused(Refusal::FewWords);
+        return Err(Refusal::FewWords);
     }
     let five = read_heading_words(words);
     let sixth = read_step_word(words, five);
@@ -151,20 +138,19 @@ pub(crate) fn read_heading(words: &[u32]) -> HeadingRead
     let step = wrong_step(sixth.word);
     let length = wrong_length(heading, words.len());
     if kinds {
-        return HeadingRead::Refused(Refusal::HeadingKind);
+        return Err(Refusal::HeadingKind);
     }
     if prices {
-        return HeadingRead::Refused(Refusal::HeadingPrice);
+        return Err(Refusal::HeadingPrice);
     }
     if band {
-        return HeadingRead::Refused(Refusal::HeadingBand);
+        return Err(Refusal::HeadingBand);
     }
     if step {
-        return HeadingRead::Refused(Refusal::HeadingStep);
+        return Err(Refusal::HeadingStep);
     }
     if length {
-        return HeadingRead::Refused(Refusal::Length);
+        return Err(Refusal::Length);
     }
-    let next = sixth.next;
-    HeadingRead::Passed(heading, next)
+    Ok((heading, sixth.next))
 }

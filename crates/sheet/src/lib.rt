@@ -10,9 +10,9 @@ ghost use Rattle.rules.specs.Result.{count};
 ghost use Rattle.rules.specs.Sheet.{check_sheet};
 ghost use Rattle.sheet.specs.Reading.{ReadsAs};
 
-use heading::{HeadingRead, read_heading};
-use orders::{nothing_read, read_orders};
-use rules::{Checked, Heading, Order};
+use heading::read_heading;
+use orders::read_orders;
+use rules::{Refusal, Sheet};
 use words::word_of;
 
 // Clause 3.1: words of a heading without a step word, and of an order.
@@ -20,32 +20,20 @@ pub(crate) const HEADING_WORDS: usize = 5;
 
 pub(crate) const ORDER_WORDS: usize = 3;
 
-// What a sheet says, for the calls that go on from it: the answer of its check, its heading and its
-// orders in 120 places, those from the number of orders on holding none. Of a refused sheet no heading
-// and no order is handed on. (The array stands beside the answer: an enum could hold none when this was written.)
-#[derive(Clone, Copy)]
-pub struct Reading {
-    pub checked: Checked,
-    pub heading: Heading,
-    pub orders: [Order; 120],
-}
-
-// Reads a sheet once, for every call that takes one.
-pub fn read_sheet(words: &[u32]) -> Reading
+// Reads a sheet once, for every call that takes one: what it says, or why it is refused.
+pub fn read_sheet(words: &[u32]) -> Result<Sheet, Refusal>
     ensures { ReadsAs words.now result }
 {
-    match read_heading(words) {
-        HeadingRead::Passed(heading, next) => read_orders(words, heading, next),
-        HeadingRead::Refused(refusal) => nothing_read(refusal),
-    }
+    let (heading, next) = read_heading(words)?;
+    read_orders(words, heading, next)
 }
 
 // The call that checks a sheet.
-pub fn check(words: &[u32]) -> Checked
+pub fn check(words: &[u32]) -> Result<(), Refusal>
     ensures { check_answer result ≡ check_sheet words.now }
 {
-    let reading = read_sheet(words);
-    reading.checked
+    read_sheet(words)?;
+    Ok(())
 }
 
 // How many orders a sheet says that it has, be it accepted or not.

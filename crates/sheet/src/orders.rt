@@ -1,16 +1,14 @@
 // The orders of a sheet, three words each, and their checks, refusals 5 to 8.
-ghost use Rattle.std.specs.Prelude.{◌≡◌, not, ◌+◌, ◌≤◌, length};
+ghost use Rattle.std.specs.Prelude.{◌≡◌, Ok, not, ◌+◌, ◌≤◌, length};
 ghost use Rattle.rules.specs.Sheet.{order_kinds, terms_allowed, quantity_allowed, ignored_allowed, side_of, terms_of, order_from};
 ghost use Rattle.rules.specs.Limits.{no_order};
 ghost use Rattle.sheet.specs.Reading.{ReadsAs};
-ghost use Rattle.sheet.specs.Steps.{order_words_at, OrderCheckedAs, OrderReadsAs, HeadingReadsAs, refused_reading};
-ghost use Rattle.sheet.specs.declared.heading.HeadingRead.TheVariants.{Passed as PassedHeading};
+ghost use Rattle.sheet.specs.Steps.{order_words_at, OrderCheckedAs, OrderReadsAs, HeadingReadsAs};
 
-use crate::Reading;
 use rules::{
-    Checked, Heading, Order, OrderFault, Pieces, Price, QuotationStep, Refusal, Side, Terms, Word,
-    on_grid,
+    Heading, Order, OrderFault, Pieces, Price, Refusal, Sheet, Side, Terms, Word, on_grid,
 };
+use words::Kind;
 use words::cursor::Cursor;
 
 // The three words of an order, and the place after them.
@@ -22,20 +20,6 @@ pub(crate) struct OrderWords {
     pub next: Cursor,
 }
 
-// Whether an order passes its checks.
-#[derive(Clone, Copy)]
-pub(crate) enum OrderChecked {
-    Passed,
-    Faulty(OrderFault),
-}
-
-// An order and the place after it, or its fault.
-#[derive(Clone, Copy)]
-pub(crate) enum OrderRead {
-    Passed(Order, Cursor),
-    Faulty(OrderFault),
-}
-
 fn read_order_words(words: &[u32], cursor: Cursor) -> OrderWords
     requires { cursor.at + 3 ≤ length words.now }
     ensures { result ≡ order_words_at words.now cursor.at }
@@ -43,15 +27,11 @@ fn read_order_words(words: &[u32], cursor: Cursor) -> OrderWords
     let first = cursor.step(words);
     let second = first.next.step(words);
     let third = second.next.step(words);
-    let a = first.word;
-    let b = second.word;
-    let c = third.word;
-    let next = third.next;
     OrderWords {
-        first: a,
-        second: b,
-        third: c,
-        next,
+        first: first.word,
+        second: second.word,
+        third: third.word,
+        next: third.next,
     }
 }
 
@@ -59,12 +39,12 @@ fn read_order_words(words: &[u32], cursor: Cursor) -> OrderWords
 fn wrong_kinds(three: OrderWords) -> bool
     ensures { result ≡ not (order_kinds three.first three.second three.third) }
 {
-    !(((three.first.kind == 6) | (three.first.kind == 7))
-        & (three.second.kind == 8)
-        & (three.third.kind == 9))
+    !(((three.first.kind == Kind::Buy as u32) | (three.first.kind == Kind::Sell as u32))
+        & (three.second.kind == Kind::Quantity as u32)
+        & (three.third.kind == Kind::Ignored as u32))
 }
 
-// Refusal 6, by clause 3.7.
+// Refusal 6, by clause 3.7. The disposition is a number, as the row judges any.
 fn wrong_terms(disposition: u32, limit: u32) -> bool
     ensures { result ≡ not (terms_allowed disposition limit) }
 {
@@ -86,7 +66,7 @@ fn wrong_ignored(disposition: u32, ignored: u32) -> bool
 }
 
 // The checks of an order, downwards.
-fn check_order(three: OrderWords) -> OrderChecked
+fn check_order(three: OrderWords) -> Result<(), OrderFault>
     ensures { OrderCheckedAs three result }
 {
     let limit = three.first.value % 0x100_0000;
@@ -96,24 +76,28 @@ fn check_order(three: OrderWords) -> OrderChecked
     let quantity = wrong_quantity(three.second.value);
     let ignored = wrong_ignored(disposition, three.third.value);
     if kinds {
-        return OrderChecked::Faulty(OrderFault::Kind);
+        return Err(OrderFault::Kind);
     }
     if terms {
-        return OrderChecked::Faulty(OrderFault::Terms);
+        return Err(OrderFault::Terms);
     }
     if quantity {
-        return OrderChecked::Faulty(OrderFault::Quantity);
+        return Err(OrderFault::Quantity);
     }
     if ignored {
-        return OrderChecked::Faulty(OrderFault::Ignored);
+        return Err(OrderFault::Ignored);
     }
-    OrderChecked::Passed
+    Ok(())
 }
 
 fn side_of(kind: u32) -> Side
     ensures { result ≡ side_of kind }
 {
-    if kind == 6 { Side::Buy } else { Side::Sell }
+    if kind == Kind::Buy as u32 {
+        Side::Buy
+    } else {
+        Side::Sell
+    }
 }
 
 fn terms_of(disposition: u32, limit: u32, ignored: u32) -> Terms
@@ -150,19 +134,14 @@ fn order_from(three: OrderWords) -> Order
     }
 }
 
-// Reads the order at a place.
-fn read_order(words: &[u32], cursor: Cursor) -> OrderRead
+// Reads the order at a place, and hands on the place after it.
+fn read_order(words: &[u32], cursor: Cursor) -> Result<(Order, Cursor), OrderFault>
     requires { cursor.at + 3 ≤ length words.now }
     ensures { OrderReadsAs words.now cursor.at result }
 {
     let three = read_order_words(words, cursor);
-    match check_order(three) {
-        OrderChecked::Passed => {
-            let next = three.next;
-            OrderRead::Passed(order_from(three), next)
-        }
-        OrderChecked::Faulty(fault) => OrderRead::Faulty(fault),
-    }
+    check_order(three)?;
+    Ok((order_from(three), three.next))
 }
 
 // What a place holds that has no order.
@@ -176,50 +155,21 @@ fn no_order() -> Order
     }
 }
 
-// The reading of a refused sheet: nothing but the refusal.
-pub(crate) fn nothing_read(refusal: Refusal) -> Reading
-    ensures { result ≡ refused_reading refusal }
-{
-    let none = no_order();
-    Reading {
-        checked: Checked::Refused(refusal),
-        heading: Heading {
-            lower: Price(0),
-            upper: Price(0),
-            last: Price(0),
-            indicative: Price(0),
-            count: 0,
-            step: QuotationStep(0),
-        },
-        orders: [none; 120],
-    }
-}
-
 // Reads the orders that follow a heading, lowest number first.
-pub(crate) fn read_orders(words: &[u32], heading: Heading, start: Cursor) -> Reading
-    requires { HeadingReadsAs words.now (PassedHeading heading start) }
+pub(crate) fn read_orders(words: &[u32], heading: Heading, start: Cursor) -> Result<Sheet, Refusal>
+    requires { HeadingReadsAs words.now (Ok (heading, start)) }
     ensures { ReadsAs words.now result }
 {
-    let count = heading.count;
-    let none = no_order();
-    let mut orders = [none; 120];
+    let mut orders = [no_order(); 120];
     let mut cursor = start;
-    let mut i: usize = 0;
-    while i < count {
+    for i in 0..heading.count {
         match read_order(words, cursor) {
-            OrderRead::Passed(order, next) => {
+            Ok((order, next)) => {
                 orders[i] = order;
                 cursor = next;
             }
-            OrderRead::Faulty(fault) => {
-                return nothing_read(Refusal::Order(fault, i));
-            }
+            Err(fault) => return Err(Refusal::Order(fault, i)),
         }
-        i += 1;
     }
-    Reading {
-        checked: Checked::Accepted,
-        heading,
-        orders,
-    }
+    Ok(Sheet { heading, orders })
 }

@@ -1,4 +1,4 @@
 -- Laws of a stored result, for the proofs of the functions.
+pub mod Openings
 pub mod Stretches
 pub mod Views
-pub mod Made

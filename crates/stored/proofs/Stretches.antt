@@ -1,14 +1,14 @@
 -- Where the words of a round lie. A round that is there has all its words in the list: so its first four say its page, and its fill words,
 -- behind them, can be cut out.
 use mathlib.Core.List.{List, [], ◌∷◌, ◌++◌}
-use mathlib.Core.Path.{◌≡◌, refl, sym, ap, ◌∙◌}
-use Prim.Native.Nat.{ℕ, ◌+◌, ◌-◌, ◌*◌, ◌≤◌, ◌<◌}
-use native.Mathlib.Nat.{add-zero, div-eq_of_lt}
+use mathlib.Core.Path.{◌≡◌, sym, ap, ◌∙◌}
+use Prim.Native.Nat.{ℕ, ◌+◌, ◌-◌, ◌*◌, ◌≤◌}
+use native.Mathlib.Nat.{add-zero}
 use native.Mathlib.Omega.{arith}
-use lib.ListN.{length, take, drop}
+use lib.ListN.{take, drop}
 use borrow.Author.Tests.{lt-ltb, le-ltb}
 use denote.Ref.{Bor}
-use Rattle.rules.proofs.Stored.{round_within, round_there, round_beyond}
+use Rattle.rules.proofs.Stored.{round_there, round_beyond}
 use Rattle.rules.specs.Answers.{gives, refused}
 use Rattle.rules.specs.Result.{rounds_for, round_said_for}
 use Rattle.rules.specs.Stored.{answers, summary_of, stretch_of, on_round, page, summary_numbers}
@@ -16,13 +16,6 @@ use Rattle.rules.specs.declared.Refusal.TheVariants.{Argument}
 use Rattle.rules.specs.declared.Summary.{Summary}
 use Rattle.stored.specs.Steps.{There, summary_from}
 use Rattle.stored.specs.Views.{PartOf, fills_from, fills_count}
-
--- too few words for a round
-pub no_round_lem : (rs : List ℕ) (n : ℕ) → length rs < n + 4 → 0 ≡ rounds_for n rs
-no_round_lem rs n few = sym (div-eq_of_lt few)
-
-pub round_begins : (n : ℕ) (rs : List ℕ) (r : ℕ) → r < rounds_for n rs → There n rs r (r * (n + 4))
-round_begins n rs r is = record { is = is; begins = refl; within = round_within n rs r is }
 
 -- ---- What a round says
 
@@ -66,8 +59,8 @@ module _ (whole part : Bor (List ℕ)) (n r : ℕ) where
       let count : place + 4 + n - (place + 4) ≡ n = omega arith in
       rw (lt-ltb r (rounds_for n whole.now) there.is, ← there.begins) (record { same = rw count at words; block = block; offset = omega arith })
 
-  pub no_part : rounds_for n whole.now ≤ r → part.now ≡ take (0 - 0) (drop 0 whole.now)
-      → part.ref_ptr.0 ≡ whole.ref_ptr.0 → part.ref_ptr.1 ≡ 0 * 4 + whole.ref_ptr.1
+  pub no_part : rounds_for n whole.now ≤ r → part.now ≡ take 0 whole.now
+      → part.ref_ptr.0 ≡ whole.ref_ptr.0 → part.ref_ptr.1 ≡ whole.ref_ptr.1
       → PartOf whole part (fills_from n whole.now r) (fills_count n whole.now r)
   unfolding fills_from fills_count
   no_part past words block offset =

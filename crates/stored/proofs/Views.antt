@@ -1,7 +1,7 @@
--- What a view holds, by the answer. A view that opened holds the stored list itself and the sheet's number of orders: so demand 3 holds of
--- the words that it pages through, and each page says what demand 3 reads from them.
-use mathlib.Core.List.{List, [], map}
-use mathlib.Core.Path.{◌≡◌, refl, sym, ap, ◌∙◌}
+-- What is read through a view. It holds the stored list itself and the sheet's number of orders: so a round read through it is what the
+-- rules answer, demand 3 holds of the words that it pages through, and each page says what demand 3 reads from them.
+use mathlib.Core.List.{List, ◌++◌, map}
+use mathlib.Core.Path.{◌≡◌, sym, ap, ◌∙◌}
 use Prim.Native.Nat.{ℕ, ◌+◌, ◌*◌, ◌≤◌, ◌<◌}
 use native.Mathlib.Nat.{add_assoc}
 use native.Mathlib.Omega.{arith}
@@ -9,32 +9,36 @@ use lib.ListN.{length, get_or, take, drop, length-drop, length-map, get_or-map}
 use lib.Seq.{length-take-le, get_or-take, get_or-drop}
 use borrow.Author.Tests.{lt-ltb}
 use denote.Ref.{Bor}
-use Rattle.claims.proofs.StoredHold.{read_as_said}
+use Rattle.claims.proofs.StoredHold.{read_as_said, round_where}
 use Rattle.claims.specs.Stored.{ReadAsSaid}
 use Rattle.rules.proofs.Lists.{listed-is}
 use Rattle.rules.proofs.Stored.{round_within, round_there}
+use Rattle.rules.specs.Answers.{gives, refused}
 use Rattle.rules.specs.Result.{count, rounds_for, rounds_in, word_place_for, round_said_for, round_said}
-use Rattle.rules.specs.Stored.{opens_answer, page, page_answer}
+use Rattle.rules.specs.Stored.{answers, on_round, summary_of, stretch_of, page, stored_round, stored_answer, summary_numbers, unopened}
 use Rattle.rules.specs.Words.{word_of}
-use Rattle.rules.specs.declared.OpensAnswer.{OpensAnswer}
-use Rattle.rules.specs.declared.OpensAnswer.TheVariants.{Opened, Different, Refused}
 use Rattle.rules.specs.declared.Refusal.{Refusal}
-use Rattle.stored.specs.Views.{PartOf, fills_from, fills_count, HoldsWords, OpensAs, PageOf, PageReads}
-use Rattle.stored.specs.declared.OpenedResult.{OpenedResult}
+use Rattle.rules.specs.declared.Unopened.{Unopened}
+use Rattle.rules.specs.declared.Unopened.TheVariants.{Different, Refused}
+use Rattle.std.specs.Prelude.{Ok, Err, IsOkAnd}
+use Rattle.std.specs.declared.result.Result.{Result}
+use Rattle.stored.specs.Views.{PartOf, fills_from, fills_count, OpensAs, PageOf, PageReads}
 use Rattle.stored.specs.declared.Page.{Page}
+use Rattle.stored.specs.declared.View.{View}
 
--- ---- What a view holds
+-- ---- A round by a view
 
-module _ {a : OpensAnswer} (stored : Bor (List ℕ)) where
-  pub holds_opened : a ≡ Opened → HoldsWords a stored stored
-  holds_opened e = rw e refl
+module _ (ws : List ℕ) (stored : Bor (List ℕ)) (r : ℕ) where
+  -- what is answered of a round where the result was opened, or was not
+  abbrev pub RoundBy : Result View Unopened → Type 0
+  RoundBy (Ok v) = answers (on_round v.n v.words.now r (summary_of (round_said_for v.n v.words.now r) ++ stretch_of v.n r))
+      ≡ stored_answer (stored_round ws stored.now r)
+  RoundBy (Err u) = unopened u ≡ stored_answer (stored_round ws stored.now r)
 
-  module _ (words : Bor (List ℕ)) (none : words.now ≡ []) where
-    pub holds_different : {place : ℕ} → a ≡ Different place → HoldsWords a stored words
-    holds_different e = rw e none
-
-    pub holds_refused : {r : Refusal} → a ≡ Refused r → HoldsWords a stored words
-    holds_refused e = rw e none
+  pub round_by : (o : Result View Unopened) → OpensAs ws stored o → RoundBy o
+  round_by (Ok v) opens = rw (opens.holds, opens.orders) (round_where ws stored.now r opens.answers)
+  round_by (Err (Different place)) opens = round_where ws stored.now r opens.answers
+  round_by (Err (Refused refusal)) opens = round_where ws stored.now r opens.answers
 
 -- ---- What its pages say
 
@@ -54,24 +58,25 @@ stretch_values n rs r within =
     ∙ ap value (sym (get_or-drop (word_place_for n r 4) rs k 0) ∙ sym (get_or-take n (drop (word_place_for n r 4) rs) k 0 own))
     ∙ sym (get_or-map value fill k 0)))
 
-module _ {ws : List ℕ} {stored : Bor (List ℕ)} {o : OpenedResult} (opens : OpensAs ws stored o) (opened : o.answer ≡ Opened) where
-  held : o.view.words ≡ stored
-  held = rw opened at opens.holds
-
+module _ {ws : List ℕ} {stored : Bor (List ℕ)} {v : View} (opens : OpensAs ws stored (Ok v)) where
   -- so whoever pages through it reads words of which demand 3 holds
   pub opened_reads : ReadAsSaid ws stored.now
-  opened_reads = read_as_said ws stored.now (sym opens.answers ∙ ap opens_answer opened)
+  opened_reads = read_as_said ws stored.now (sym opens.answers)
 
-  pub page_reads : {r : ℕ} {p : Page} → r < rounds_in ws stored.now → PageOf o.view r p → PageReads ws stored r p
+  -- a round that is there has a page
+  pub page_reads : {r : ℕ} {p : Result Page Refusal} → r < rounds_in ws stored.now → PageOf v r p → IsOkAnd p (PageReads ws stored r)
   unfolding page round_said fills_from fills_count
-  page_reads {r} {p} there paged =
+  page_reads {r = r} {p = Ok p} there paged =
       let n : ℕ = count ws in
       let test = lt-ltb r (rounds_for n stored.now) there in
-      let said : page_answer p.answer ≡ page n stored.now r = rw (← opens.orders, ← held) paged.says in
-      let cut : PartOf stored p.fills (fills_from n stored.now r) (fills_count n stored.now r) = rw (← opens.orders, ← held) paged.fills in
+      let said : gives (summary_numbers p.summary) ≡ page n stored.now r = rw (← opens.orders, ← opens.holds) paged.says in
+      let cut : PartOf stored p.fills (fills_from n stored.now r) (fills_count n stored.now r) = rw (← opens.orders, ← opens.holds) paged.fills in
       let part : PartOf stored p.fills (word_place_for n r 4) n = rw test at cut in
       record {
         says = said ∙ round_there n stored.now r _ there;
         part = part;
         fills = ap (map value) part.same ∙ stretch_values n stored.now r (omega (arith, round_within n stored.now r there));
       }
+  page_reads {r = r} {p = Err e} there paged =
+      let said : refused e ≡ page (count ws) stored.now r = rw (← opens.orders, ← opens.holds) paged.says in
+      cc (said, round_there (count ws) stored.now r (summary_of (round_said_for (count ws) stored.now r)) there)

@@ -1,10 +1,9 @@
 -- What the functions inside this crate hand to each other. Serves [10.6c].
-use Rattle.std.specs.Prelude.{List, ◌≡◌, ℕ, ◌+◌, ◌*◌, ◌≤◌, ◌<◌, length}
+use Rattle.std.specs.Prelude.{List, ◌≡◌, ℕ, ◌+◌, ◌*◌, ◌≤◌, ◌<◌, length, Some, None}
+use Rattle.std.specs.declared.option.Option.{Option}
 use Rattle.rules.specs.Result.{rounds_for}
 use Rattle.rules.specs.Words.{word_at}
 use Rattle.rules.specs.declared.Summary.{Summary}
-use Rattle.stored.specs.declared.rounds.RoundPlace.{RoundPlace}
-use Rattle.stored.specs.declared.rounds.RoundPlace.TheVariants.{At, Beyond}
 
 -- A round that is there begins at its place, and all its words lie in the list.
 pub record There (n : ℕ) (rs : List ℕ) (r place : ℕ) : Type 0 where
@@ -13,9 +12,9 @@ pub record There (n : ℕ) (rs : List ℕ) (r place : ℕ) : Type 0 where
   pub within : place + (n + 4) ≤ length rs
 
 -- Where round r begins among the words rs of a result of n orders.
-abbrev pub PlaceIs : ℕ → List ℕ → ℕ → RoundPlace → Type 0
-PlaceIs n rs r (At place) = There n rs r place
-PlaceIs n rs r Beyond = rounds_for n rs ≤ r
+abbrev pub PlaceIs : ℕ → List ℕ → ℕ → Option ℕ → Type 0
+PlaceIs n rs r (Some place) = There n rs r place
+PlaceIs n rs r None = rounds_for n rs ≤ r
 
 -- Four words from a place on, as the engine hands them out.
 abbrev pub summary_from : List ℕ → ℕ → Summary

@@ -1,13 +1,13 @@
 -- Clauses 10.6d and 13.12 of docs/RULES.md: a view over a stored result, and what it gives round by round.
-use Rattle.std.specs.Prelude.{cond, List, [], map, ◌≡◌, ℕ, ◌+◌, ◌*◌, ltb, take, drop}
+use Rattle.std.specs.Prelude.{cond, List, [], map, ◌≡◌, ℕ, ◌+◌, ◌*◌, ltb, take, drop, Ok, Err, IfOk}
 use Rattle.std.specs.Borrow.{Bor}
-use Rattle.rules.specs.Answers.{gives}
+use Rattle.std.specs.declared.result.Result.{Result}
+use Rattle.rules.specs.Answers.{Answer, gives, refused}
 use Rattle.rules.specs.Result.{count, rounds_for, word_place_for, word_place, round_said}
-use Rattle.rules.specs.Stored.{open_stored, stored_answer, opens_answer, summary_of, page, page_answer}
+use Rattle.rules.specs.Stored.{StoredAnswer, answers, open_stored, stored_answer, unopened, summary_of, summary_numbers, page}
 use Rattle.rules.specs.Words.{word_of}
-use Rattle.rules.specs.declared.OpensAnswer.{OpensAnswer}
-use Rattle.rules.specs.declared.OpensAnswer.TheVariants.{Opened, Different, Refused}
-use Rattle.stored.specs.declared.OpenedResult.{OpenedResult}
+use Rattle.rules.specs.declared.Refusal.{Refusal}
+use Rattle.rules.specs.declared.Unopened.{Unopened}
 use Rattle.stored.specs.declared.Page.{Page}
 use Rattle.stored.specs.declared.View.{View}
 
@@ -29,27 +29,35 @@ fills_count n rs r = cond (ltb r (rounds_for n rs)) n 0
 
 -- ---- The view
 
--- [10.6d] The words that a view holds: of a result that opens the very list that was passed, else none.
-abbrev pub HoldsWords : OpensAnswer → Bor (List ℕ) → Bor (List ℕ) → Type 0
-HoldsWords Opened stored words = words ≡ stored
-HoldsWords (Different place) stored words = words.now ≡ []
-HoldsWords (Refused r) stored words = words.now ≡ []
+-- [10.6d] The words that a view of a result holds: the very list that was passed.
+abbrev pub HoldsWords : View → Bor (List ℕ) → Type 0
+HoldsWords v stored = v.words ≡ stored
 
--- [10.6d] What opening a stored result beside the sheet ws gives: the answer of the rules, and a view with the sheet's number
--- of orders.
-pub record OpensAs (ws : List ℕ) (stored : Bor (List ℕ)) (o : OpenedResult) : Type 0 where
-  pub answers : opens_answer o.answer ≡ stored_answer (open_stored ws stored.now)
-  pub holds : HoldsWords o.answer stored o.view.words
-  pub orders : o.view.n ≡ count ws
+-- [10.6d] What is answered where a view is had, or is not.
+abbrev pub view_answer : Result View Unopened → StoredAnswer
+view_answer (Ok v) = answers (gives [])
+view_answer (Err u) = unopened u
+
+-- [10.6d] What opening a stored result beside the sheet ws gives: the answer of the rules, and where it opens a view of it with the
+-- sheet's number of orders.
+pub record OpensAs (ws : List ℕ) (stored : Bor (List ℕ)) (o : Result View Unopened) : Type 0 where
+  pub answers : view_answer o ≡ stored_answer (open_stored ws stored.now)
+  pub holds : IfOk o (λ v. HoldsWords v stored)
+  pub orders : IfOk o (λ v. v.n ≡ count ws)
+
+-- [10.6d] What is answered of a round by its page.
+abbrev pub paged_answer : Result Page Refusal → Answer
+paged_answer (Ok p) = gives (summary_numbers p.summary)
+paged_answer (Err r) = refused r
 
 -- [10.6d] What a view gives for round r: the page of the rules, and the fill words as a part of the list that it holds.
-pub record PageOf (v : View) (r : ℕ) (p : Page) : Type 0 where
-  pub says : page_answer p.answer ≡ page v.n v.words.now r
-  pub fills : PartOf v.words p.fills (fills_from v.n v.words.now r) (fills_count v.n v.words.now r)
+pub record PageOf (v : View) (r : ℕ) (p : Result Page Refusal) : Type 0 where
+  pub says : paged_answer p ≡ page v.n v.words.now r
+  pub fills : IfOk p (λ p. PartOf v.words p.fills (fills_from v.n v.words.now r) (fills_count v.n v.words.now r))
 
 -- [13.12] What a page says of round r of the stored words, beside the sheet ws: what demand 3 reads from the same words; and its
 -- fill words are a part of the stored list itself, each with the pieces that demand 3 reads.
 pub record PageReads (ws : List ℕ) (stored : Bor (List ℕ)) (r : ℕ) (p : Page) : Type 0 where
-  pub says : page_answer p.answer ≡ gives (summary_of (round_said ws stored.now r))
+  pub says : gives (summary_numbers p.summary) ≡ gives (summary_of (round_said ws stored.now r))
   pub part : PartOf stored p.fills (word_place ws r 4) (count ws)
   pub fills : map (λ w. (word_of w).value) p.fills.now ≡ (round_said ws stored.now r).fills

@@ -1,5 +1,5 @@
 // Clause 10.6c: the rounds in the words of a result of n orders. Words and n may be any: a round that is not there
-// is refused.
+// is refused. They go by themselves and not as a `View`, which holds only words that open.
 ghost use Rattle.std.specs.Prelude.{◌≡◌, ◌++◌, ◌+◌, ◌≤◌, ◌<◌, length};
 ghost use Rattle.rules.specs.Result.{rounds_for, round_said_for};
 ghost use Rattle.rules.specs.Stored.{answers, summary_of, stretch_of, on_round, page, page_answer, round_answer};
@@ -7,37 +7,28 @@ ghost use Rattle.rules.specs.Words.{word_at};
 ghost use Rattle.stored.specs.Steps.{PlaceIs, summary_from};
 ghost use Rattle.stored.specs.Views.{fills_from, fills_count, PartOf};
 
-use rules::{PageAnswer, Pieces, Price, Refusal, RoundAnswer, Summary};
+use rules::{Pieces, Price, Refusal, StoredRound, Summary, Unopened};
 use words::word_of;
 
 // How many rounds there are. No list has as many words as a round of the greatest n would need.
 pub fn rounds_in(words: &[u32], n: usize) -> usize
     ensures { result ≡ rounds_for n words.now }
 {
-    let all = words.len();
-    if all < 4 {
-        return 0;
+    match n.checked_add(4) {
+        Some(each) => words.len() / each,
+        None => 0,
     }
-    if all - 4 < n {
-        return 0;
-    }
-    all / (n + 4)
 }
 
-// Where a round begins, or that it is past the last.
-#[derive(Clone, Copy)]
-pub(crate) enum RoundPlace {
-    At(usize),
-    Beyond,
-}
-
-fn round_place(words: &[u32], n: usize, r: usize) -> RoundPlace
+// Where a round begins, unless it is past the last.
+fn round_place(words: &[u32], n: usize, r: usize) -> Option<usize>
     ensures { PlaceIs n words.now r result }
 {
     if r < rounds_in(words, n) {
-        return RoundPlace::At(r * (n + 4));
+        Some(r * (n + 4))
+    } else {
+        None
     }
-    RoundPlace::Beyond
 }
 
 fn value_at(words: &[u32], place: usize) -> u32
@@ -61,39 +52,36 @@ fn summary_from(words: &[u32], place: usize) -> Summary
 }
 
 // The page of round r.
-pub fn page_at(words: &[u32], n: usize, r: usize) -> PageAnswer
+#[tactic(auto, using(crate::proofs::Stretches::page_said, crate::proofs::Stretches::no_page_lem))]
+pub fn page_at(words: &[u32], n: usize, r: usize) -> Result<Summary, Refusal>
     ensures { page_answer result ≡ page n words.now r }
 {
-    match round_place(words, n, r) {
-        RoundPlace::At(place) => PageAnswer::Says(summary_from(words, place)),
-        RoundPlace::Beyond => PageAnswer::Refused(Refusal::Argument),
-    }
+    let place = round_place(words, n, r).ok_or(Refusal::Argument)?;
+    Ok(summary_from(words, place))
 }
 
 // Round r, with the stretch of its fill words.
-pub(crate) fn round_at(words: &[u32], n: usize, r: usize) -> RoundAnswer
+#[tactic(auto, using(crate::proofs::Stretches::round_said_lem, crate::proofs::Stretches::no_round_said))]
+pub(crate) fn round_at(words: &[u32], n: usize, r: usize) -> Result<StoredRound, Unopened>
     ensures { round_answer result ≡ answers (on_round n words.now r (summary_of (round_said_for n words.now r) ++ stretch_of n r)) }
 {
-    match round_place(words, n, r) {
-        RoundPlace::At(place) => RoundAnswer::Reads {
-            summary: summary_from(words, place),
-            fills: place + 4,
-            count: n,
-        },
-        RoundPlace::Beyond => RoundAnswer::Refused(Refusal::Argument),
-    }
+    let place = round_place(words, n, r).ok_or(Refusal::Argument)?;
+    Ok(StoredRound {
+        summary: summary_from(words, place),
+        fills: place + 4,
+        count: n,
+    })
 }
 
-// The n fill words of round r, still that part of the list.
+// The n fill words of round r, still that part of the list. Past the last round there are none.
 pub fn fills_at(words: &[u32], n: usize, r: usize) -> &[u32]
     ensures { PartOf words.entry result (fills_from n words.now r) (fills_count n words.now r) }
 {
     match round_place(words, n, r) {
-        RoundPlace::At(place) => {
+        Some(place) => {
             let start = place + 4;
-            let end = start + n;
-            &words[start..end]
+            &words[start..start + n]
         }
-        RoundPlace::Beyond => &words[0..0],
+        None => &words[..0],
     }
 }

@@ -27,9 +27,6 @@ hex_digits {word} {count} small fewest =
     let few : count ≤ 8 = fewest_most 16 8 8 (omega arith) (omega arith) small fewest in
     omega (arith, fewest.0)
 
-pub decimal_digits : {number count : ℕ} → number < 0x1_0000_0000_0000_0000 → IsDigitCount 10 1 number count → count ≤ 20
-decimal_digits small fewest = fewest_most 10 1 20 (omega arith) (omega arith) (omega arith) fewest
-
 -- a number of count + 1 figures: they are the same one after the other, from the last
 digits_are : (count most n : ℕ) → n < 10 ^ suc count → (1 ≤ count → 10 ^ count ≤ n) → n < most
     → last_digits 10 (suc count) n ≡ figures_in most n

@@ -39,6 +39,6 @@ module _ (bytes : List ℕ) where
 -- ---- The space
 
 -- what the call answers for the words read, with a space of just so many words
-pub opened_answer : {words sheet : List ℕ} (space : List ℕ) {answered : Answer} → words ≡ sheet → length space ≡ 15005
-    → answered ≡ answer (opening words (length space)) → answered ≡ downwards (sheet_checks sheet) (gives (opening_words sheet))
-opened_answer {sheet = sheet} space read long answers = rw (read, long, opening_checked sheet (most_asked sheet)) at answers
+pub opened_answer : {words sheet : List ℕ} {n : ℕ} {answered : Answer} → words ≡ sheet → n ≡ 15005 → answered ≡ answer (opening words n)
+    → answered ≡ downwards (sheet_checks sheet) (gives (opening_words sheet))
+opened_answer {sheet = sheet} read long answers = rw (read, long, opening_checked sheet (most_asked sheet)) at answers

@@ -19,7 +19,7 @@ use Rattle.rules.proofs.Lists.{listed-is}
 use Rattle.rules.specs.Listing.{word_line, word_lines}
 use Rattle.rules.specs.Pages.{digit_value, digit_on, line_fits, most_listed, listing_fits, word_on, result_in}
 use Rattle.text.proofs.Printing.{length_line, length_lines}
-use Rattle.text.proofs.Reading.{figure_value, letter_value, number_to, eight_digits}
+use Rattle.text.proofs.Reading.{figure_value, letter_value, number_to, number_same, eight_digits}
 
 -- ---- The digits of a number
 
@@ -57,11 +57,6 @@ value_small (suc k) n j l = go (last_or_before l) (value_small k (n / 16) j)
     go : (j ≡ k) ⊎ (j < k) → (j < k → value_at k (n / 16) j < 16) → value_at (suc k) n j < 16
     go (inl last) before = rw (last, last_value k n) (omega arith)
     go (inr less) before = rw (value_before k n j less) (before less)
-
-number_same : (d e : ℕ → ℕ) (k : ℕ) → ((j : ℕ) → j < k → d j ≡ e j) → number_to d k ≡ number_to e k
-unfolding number_to
-number_same d e zero same = refl
-number_same d e (suc k) same = rw (number_same d e k (λ j l. same j (omega arith)), same k (omega arith))
 
 number_printed : (k n : ℕ) → n < 16 ^ k → number_to (value_at k n) k ≡ n
 unfolding number_to

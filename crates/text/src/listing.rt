@@ -1,61 +1,47 @@
 // The words of a stored result, out of its text: lines of eight hexadecimal digits, as the opening
 // program prints them.
-ghost use Rattle.std.specs.Prelude.{◌+◌, ◌*◌, ◌≤◌, true, ◌≡◌, length};
+ghost use Rattle.std.specs.Prelude.{◌*◌, true, ◌≡◌, length, ltb, IfSome};
+ghost use Rattle.std.specs.Option.{is_some};
 ghost use Rattle.rules.specs.Pages.{digit_value, line_fits, listing_fits, word_on, result_in};
 
 // The bytes of the longest result, 15,005 lines.
 pub const MOST_LISTED: usize = 135045;
 
-// The value of a digit; 16 is that of any other byte.
-fn digit_value(byte: u8) -> u32
-    ensures { result ≡ digit_value byte }
+// The value of a digit; no other byte has one. (`to_digit` takes the letters A to F too.)
+fn digit(byte: u8) -> Option<u32>
+    ensures is_digit { is_some result ≡ ltb (digit_value byte) 16 }
+    ensures value { IfSome result (λ d. d ≡ digit_value byte) }
 {
     match byte {
-        b'0'..=b'9' => (byte - b'0') as u32,
-        b'a'..=b'f' => (byte - b'a' + 10) as u32,
-        _ => 16,
+        b'0'..=b'9' => Some(u32::from(byte - b'0')),
+        b'a'..=b'f' => Some(u32::from(byte - b'a' + 10)),
+        _ => None,
     }
 }
 
-// Whether line i is eight digits and a newline.
-fn line_fits(text: &[u8], i: usize) -> bool
-    requires { 9 * i + 9 ≤ length text.now }
-    ensures { result ≡ line_fits text.now i }
+// Whether a line is eight digits and a newline.
+fn line_fits(line: &[u8; 9]) -> bool
+    ensures { result ≡ line_fits line.now 0 }
 {
-    let at = 9 * i;
-    let mut fits = true;
-    let mut j = 0;
-    while j < 8 {
-        fits = fits & (digit_value(text[at + j]) < 16);
-        j += 1;
-    }
-    fits & (text[at + 8] == b'\n')
+    line[..8].iter().all(|byte| digit(*byte).is_some()) & (line[8] == b'\n')
 }
 
 // Whether a text is the lines of some words, and no more than a result has.
 pub fn listing_fits(text: &[u8]) -> bool
     ensures { result ≡ listing_fits text.now }
 {
-    let mut fits = (text.len() % 9 == 0) & (text.len() <= MOST_LISTED);
-    let mut i = 0;
-    while i < text.len() / 9 {
-        fits = fits & line_fits(text, i);
-        i += 1;
-    }
-    fits
+    let (lines, rest) = text.as_chunks::<9>();
+    rest.is_empty() & (text.len() <= MOST_LISTED) & lines.iter().all(line_fits)
 }
 
-// The word of line i: eight digits have no more than 32 bits.
-fn word_on(text: &[u8], i: usize) -> u32
-    requires { (9 * i + 9 ≤ length text.now) × (line_fits text.now i ≡ true) }
-    ensures { result ≡ word_on text.now i }
+// The word of a line: eight digits have no more than 32 bits.
+fn word_on(line: &[u8; 9]) -> u32
+    requires { line_fits line.now 0 ≡ true }
+    ensures { result ≡ word_on line.now 0 }
 {
-    let at = 9 * i;
     let mut word = 0;
-    let mut j = 0;
-    while j < 8 {
-        word = 16 * word + digit_value(text[at + j]);
-        j += 1;
+    for byte in &line[..8] {
+        word = 16 * word + digit(*byte).unwrap();
     }
     word
 }
@@ -65,9 +51,8 @@ pub fn read_result(text: &[u8], words: &mut [u32])
     requires { (9 * length words.old ≡ length text.now) × (listing_fits text.now ≡ true) }
     ensures { words.new ≡ result_in text.now }
 {
-    let mut i = 0;
-    while i < words.len() {
-        words[i] = word_on(text, i);
-        i += 1;
+    let (lines, _) = text.as_chunks::<9>();
+    for (i, word) in words.iter_mut().enumerate() {
+        *word = word_on(&lines[i]);
     }
 }

@@ -1,159 +1,120 @@
-// Clauses 9.9–9.15: what a word does to the clock.
-ghost use Rattle.std.specs.Prelude.{◌≡◌, ◌≤◌};
+// Clauses 9.10–9.15: what a word does to the clock.
+#![tactic(auto, using(std::proofs::lemmas::Bool::Decides::nat_tests), unfolding(rules::specs::Answers::downwards, rules::specs::Band::widened_band, rules::specs::Band::widened_for, rules::specs::Waiting::waiting_word, rules::specs::Waiting::after_outside, rules::specs::Waiting::after_inside, rules::specs::Waiting::after_time, rules::specs::Waiting::after_second, rules::specs::Waiting::after_word, rules::specs::Waiting::time_is_up, rules::specs::Waiting::waiting_checks))]
+
+ghost use Rattle.std.specs.Prelude.{true, ◌≡◌, ◌≤◌};
 ghost use Rattle.claims.specs.Clock.{SoundClock};
-ghost use Rattle.rules.specs.Waiting.{last_second, waiting_word, start_in, after_outside, after_inside, time_is_up, side_in};
-ghost use Rattle.waiting.specs.Steps.{with_phase, second_word, EndsAs, MovedAs};
+ghost use Rattle.rules.specs.Answers.{side_number};
+ghost use Rattle.rules.specs.Band.{band_stands};
+ghost use Rattle.rules.specs.Waiting.{last_second, side_in, clock_at_start, after_outside, after_inside};
 
+use crate::said::Said;
 use band::widened_band;
-use rules::{BandAnswer, Clock, Phase, WaitingFault, Word};
-
-// The kinds of words.
-const SECOND: u32 = 1;
-
-const ABOVE: u32 = 2;
-
-const BELOW: u32 = 3;
-
-const INSIDE: u32 = 4;
-
-// The last second of a day.
-const LAST_SECOND: u32 = 86399;
+use rules::{Band, Clock, Outside, Phase, WaitingFault, Word};
 
 // After how many seconds the time of a phase is up.
-const WAITING_TIME: u64 = 600;
+const WAITING_TIME: u32 = 600;
 
-// The sides: a round above the band widens its upper bound, one below it the lower.
-const UPPER: u32 = 0;
-
-const LOWER: u32 = 1;
-
-// The clock after a word, or the word's fault.
+// The clock between two words of a waiting list. It is always sound.
 #[derive(Clone, Copy)]
-pub(crate) enum Moved {
-    To(Clock),
-    Faulty(WaitingFault),
+pub(crate) struct RunningClock {
+    pub(crate) clock: Clock,
+    ghost sound: { SoundClock clock },
 }
 
-// Whether a word may stand in a waiting list.
-fn waiting_word(word: Word) -> bool
-    ensures { result ≡ waiting_word word }
-{
-    ((word.kind == SECOND) & (word.value <= LAST_SECOND))
-        | ((ABOVE <= word.kind) & (word.kind <= INSIDE) & (word.value == 0))
-}
+impl RunningClock {
+    ghost use Rattle.waiting.specs.Steps.{second_word, EndsAs, MovedAs};
 
-// Where the phase started, or would start now.
-fn start_in(phase: Phase, second: u32) -> u32
-    ensures { result ≡ start_in phase second }
-{
-    match phase {
-        Phase::Idle => second,
-        Phase::Waiting { start, side: _ } => start,
+    // Before the first word, from the starting band on.
+    pub(crate) fn start(band: Band) -> RunningClock
+        requires { band_stands band.lower.0 band.upper.0 ≡ true }
+        ensures { result.clock ≡ clock_at_start band.lower.0 band.upper.0 }
+    {
+        RunningClock {
+            clock: Clock {
+                second: 0,
+                phase: Phase::Idle,
+                lower: band.lower,
+                upper: band.upper,
+                due: 0,
+            },
+        }
     }
-}
 
-// The clock with another phase.
-fn with_phase(clock: Clock, phase: Phase) -> Clock
-    ensures { result ≡ with_phase clock phase }
-{
-    let lower = clock.lower;
-    let upper = clock.upper;
-    Clock {
-        second: clock.second,
-        phase,
-        lower,
-        upper,
-        due: clock.due,
+    // After a round outside the band, on this side: a phase that is on keeps its start, else one starts now.
+    fn after_outside(self, side: Outside) -> RunningClock
+        ensures { result.clock ≡ after_outside side self.clock }
+    {
+        let start = match self.clock.phase {
+            Phase::Idle => self.clock.second,
+            Phase::Waiting { start, side: _ } => start,
+        };
+        RunningClock {
+            clock: Clock {
+                phase: Phase::Waiting { start, side },
+                ..self.clock
+            },
+        }
     }
-}
 
-// After a round outside the band, on this side.
-fn after_outside(side: u32, clock: Clock) -> Clock
-    ensures { result ≡ after_outside side clock }
-{
-    let phase = clock.phase;
-    let start = start_in(phase, clock.second);
-    with_phase(clock, Phase::Waiting { start, side })
-}
-
-// After a round inside the band.
-fn after_inside(clock: Clock) -> Clock
-    ensures { result ≡ after_inside clock }
-{
-    with_phase(clock, Phase::Idle)
-}
-
-// Whether the phase ends by time at this second.
-fn time_is_up(phase: Phase, second: u32) -> bool
-    ensures { result ≡ time_is_up phase second }
-{
-    match phase {
-        Phase::Idle => false,
-        Phase::Waiting { start, side: _ } => start as u64 + WAITING_TIME <= second as u64,
+    // After a round inside the band.
+    fn after_inside(self) -> RunningClock
+        ensures { result.clock ≡ after_inside self.clock }
+    {
+        RunningClock {
+            clock: Clock {
+                phase: Phase::Idle,
+                ..self.clock
+            },
+        }
     }
-}
 
-fn side_in(phase: Phase) -> u32
-    ensures { result ≡ side_in phase }
-{
-    match phase {
-        Phase::Idle => 0,
-        Phase::Waiting { start: _, side } => side,
-    }
-}
-
-// The end of a phase by time: the band is widened, and an opening is due.
-fn after_time(second: u32, clock: Clock) -> Moved
-    requires { SoundClock clock }
-    ensures { EndsAs second clock result }
-{
-    let phase = clock.phase;
-    let side = side_in(phase);
-    match widened_band(clock.lower.0, clock.upper.0, side) {
-        BandAnswer::Bounds { lower, upper } => Moved::To(Clock {
+    // The end of a phase by time: the band is widened on the phase's side, and an opening is due. The
+    // clock is a plain one here, since only `after_second` knows that the time is up, which keeps it sound.
+    fn after_time(self, second: u32, side: Outside) -> Result<Clock, WaitingFault>
+        requires { side_in self.clock.phase ≡ side_number side }
+        ensures { EndsAs second self.clock result }
+    {
+        let clock = self.clock;
+        let band = widened_band(clock.lower.0, clock.upper.0, side.number()).map_err(
+            |_| WaitingFault::Widening,
+        )?;
+        Ok(Clock {
             second,
             phase: Phase::Idle,
-            lower,
-            upper,
+            lower: band.lower,
+            upper: band.upper,
             due: clock.due + 1,
-        }),
-        BandAnswer::Refused(_) => Moved::Faulty(WaitingFault::Widening),
+        })
     }
-}
 
-// After a second of the day.
-fn after_second(second: u32, clock: Clock) -> Moved
-    requires { SoundClock clock × (second ≤ last_second) }
-    ensures { MovedAs clock (second_word second) result }
-{
-    if second < clock.second {
-        return Moved::Faulty(WaitingFault::Second);
+    // After a second of the day.
+    fn after_second(self, second: u32) -> Result<RunningClock, WaitingFault>
+        requires { second ≤ last_second }
+        ensures { MovedAs self.clock (second_word second) result }
+    {
+        let clock = self.clock;
+        if second < clock.second {
+            return Err(WaitingFault::Second);
+        }
+        match clock.phase {
+            Phase::Waiting { start, side } if WAITING_TIME <= second - start => {
+                let clock = self.after_time(second, side)?;
+                Ok(RunningClock { clock })
+            }
+            _ => Ok(RunningClock {
+                clock: Clock { second, ..clock },
+            }),
+        }
     }
-    let phase = clock.phase;
-    if time_is_up(phase, second) {
-        return after_time(second, clock);
-    }
-    let mut next = clock;
-    next.second = second;
-    Moved::To(next)
-}
 
-// After a word of a waiting list, from the clock as the words before left it.
-pub(crate) fn after_word(clock: Clock, word: Word) -> Moved
-    requires { SoundClock clock }
-    ensures { MovedAs clock word result }
-{
-    if !waiting_word(word) {
-        return Moved::Faulty(WaitingFault::Word);
+    // After a word of a waiting list.
+    pub(crate) fn after_word(self, word: Word) -> Result<RunningClock, WaitingFault>
+        ensures { MovedAs self.clock word result }
+    {
+        match Said::try_from(word)? {
+            Said::Second(second) => self.after_second(second),
+            Said::Outside(side) => Ok(self.after_outside(side)),
+            Said::Inside => Ok(self.after_inside()),
+        }
     }
-    if word.kind == SECOND {
-        return after_second(word.value, clock);
-    }
-    if word.kind == ABOVE {
-        return Moved::To(after_outside(UPPER, clock));
-    }
-    if word.kind == BELOW {
-        return Moved::To(after_outside(LOWER, clock));
-    }
-    Moved::To(after_inside(clock))
 }

@@ -3,8 +3,8 @@ use mathlib.Core.Path.{◌∙◌}
 use Rattle.pricing.proofs.Prices.{band_has_lem, band_has_none}
 use Rattle.pricing.proofs.crossed_price.Goals as goal
 
-pub returns-then-low-high : goal.returns-then-low-high
-returns-then-low-high c = c.balanced_price.ensures ∙ band_has_lem _ _ _ _ _ _ c.greater.ensures c.lesser.ensures c.if-low-high.true
+pub returns-then-banded : goal.returns-then-banded
+returns-then-banded c = c.balanced_price.ensures ∙ band_has_lem _ _ _ _ _ _ c.max.ensures c.min.ensures c.if-banded.true
 
-pub returns-else-low-high : goal.returns-else-low-high
-returns-else-low-high c = c.balanced_price-else-low-high.ensures ∙ band_has_none _ _ _ _ _ _ c.greater.ensures c.lesser.ensures c.if-low-high.false
+pub returns-else-banded : goal.returns-else-banded
+returns-else-banded c = c.balanced_price-else-banded.ensures ∙ band_has_none _ _ _ _ _ _ c.max.ensures c.min.ensures c.if-banded.false

@@ -1,28 +1,27 @@
--- `uncrossed_price` meets its contract: in each of the four situations both ends in the band are known.
+-- `uncrossed_price` meets its contract: in each of the four situations the best prices in the band are known.
+use mathlib.Core.Path.{◌∙◌}
 use Rattle.pricing.proofs.Prices.{Ends, only_supply, only_demand, both_there, neither_there}
 use Rattle.pricing.proofs.uncrossed_price.Goals as goal
-use Rattle.pricing.proofs.uncrossed_price.Goals.{After-lesser}
+use Rattle.pricing.proofs.uncrossed_price.Goals.{After-then_some-supplied}
 
--- the ends in the band, from the four comparisons before the first test
-ends : (c : After-lesser)
-    → (Ends c.args.heading c.args.bid.0 c.args.ask.0 c.greater.result
-    c.lesser-demanded.result c.greater-supplied.result c.lesser.result)
+ends : (c : After-then_some-supplied)
+    → Ends c.args.heading c.args.next.bid.0 c.args.next.ask.0 c.then_some-demanded.result c.then_some-supplied.result
 ends c = record {
-  lowest = c.greater.ensures;
-  buys_end = c.lesser-demanded.ensures;
-  sells_end = c.greater-supplied.ensures;
-  highest = c.lesser.ensures;
+  buys = c.then_some-demanded.ensures ∙ rw (c.max.ensures, c.min-highest.ensures);
+  sells = c.then_some-supplied.ensures ∙ rw (c.max-lowest.ensures, c.min.ensures);
 }
 
-pub returns-then-some_demand : goal.returns-then-some_demand
-returns-then-some_demand c = rw (c.greater-then-some_demand.ensures, c.lesser-then-some_demand.ensures)
-    (both_there (ends (goal.at.returns-then-some_demand c).After-lesser) _ c.if-some_demand.true c.if-supplied-lesser.true)
+pub returns-in-None-Some : goal.returns-in-None-Some
+returns-in-None-Some c = rw c.min-in-None-Some.ensures
+    (only_supply (ends (goal.at.returns-in-None-Some c).After-then_some-supplied) _ c.in-None-Some.is-0 c.in-None-Some.is-1)
 
-pub returns-then-supplied-lesser : goal.returns-then-supplied-lesser
-returns-then-supplied-lesser c = rw c.lesser-then-supplied-lesser.ensures (only_supply (ends (goal.at.returns-then-supplied-lesser c).After-lesser) _ c.if-some_demand.false c.if-supplied-lesser.true)
+pub returns-in-Some-None : goal.returns-in-Some-None
+returns-in-Some-None c = rw c.max-in-Some-None.ensures
+    (only_demand (ends (goal.at.returns-in-Some-None c).After-then_some-supplied) _ c.in-Some-None.is-0 c.in-Some-None.is-1)
 
-pub returns-then-some_demand-2 : goal.returns-then-some_demand-2
-returns-then-some_demand-2 c = rw c.greater-then-some_demand-2.ensures (only_demand (ends (goal.at.returns-then-some_demand-2 c).After-lesser) _ c.if-some_demand-2.true c.if-supplied-lesser.false)
+pub returns-in-Some-Some : goal.returns-in-Some-Some
+returns-in-Some-Some c = rw (c.max-in-Some-Some.ensures, c.min-in-Some-Some.ensures)
+    (both_there (ends (goal.at.returns-in-Some-Some c).After-then_some-supplied) _ c.in-Some-Some.is-0 c.in-Some-Some.is-1)
 
-pub returns : goal.returns
-returns c = neither_there (ends (goal.at.returns c).After-lesser) _ c.if-some_demand-2.false c.if-supplied-lesser.false
+pub returns-in-None-None : goal.returns-in-None-None
+returns-in-None-None c = neither_there (ends (goal.at.returns-in-None-None c).After-then_some-supplied) _ c.in-None-None.is-0 c.in-None-None.is-1

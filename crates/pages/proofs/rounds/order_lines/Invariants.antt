@@ -1,13 +1,9 @@
--- `order_lines` meets its contract. The invariant, `Joined`: the lines of the first k orders stand together. The measure is the number of
--- orders left.
-use Prim.Native.Nat.{◌-◌}
-use lib.ListN.{length}
-use Rattle.pages.proofs.Joining.{Joined}
+-- `order_lines` meets its contract. The invariant: the lines of the first k orders stand together.
+use Prim.Native.Nat.{◌*◌}
+use Rattle.rules.specs.Lists.{joined_to}
+use Rattle.text.specs.Writing.{Puts}
 use Rattle.pages.specs.Steps.{line_from, fills_in}
 use Rattle.pages.proofs.rounds.order_lines.Given as goal
 
 abbrev pub invariant-loop-k : goal.invariant-loop-k
-invariant-loop-k l = Joined (line_from l.orders (fills_in l.fills)) 60 (length l.fills) l.initial.out l.out l.at l.end l.k
-
-abbrev pub decreases-loop-k : goal.decreases-loop-k
-decreases-loop-k l = length l.fills - l.k
+invariant-loop-k l = Puts (60 * l.k) (joined_to (line_from l.orders (fills_in l.fills)) l.k) l.initial.out l.out

@@ -1,11 +1,10 @@
--- `price` meets its contract: four texts, one behind the other, are the rules' text.
+-- `price` meets its contract: six texts, one behind the other, are the rules' text.
 use native.Mathlib.Omega.{arith}
-use Rattle.rules.specs.Listing.{ascii}
 use Rattle.rules.specs.Pages.{price_text}
-use Rattle.pages.proofs.Appending.{append_then, append_two, append_within}
+use Rattle.text.proofs.Writing.{◌then◌, ◌within◌}
 use Rattle.pages.proofs.rounds.price.Goals as goal
 
 pub returns : goal.returns
 unfolding price_text
-returns c = let crowns = append_two (append_two c.number-end.ensures (ascii ", or ") _ c.put_number-end.ensures) (ascii ".") _ c.put_number-end-2.ensures in
-    append_within (append_then crowns c.put.ensures) (omega arith)
+returns c = rw (← c.from-tens.ensures)
+    (c.number.ensures then c.put.ensures then c.number-2.ensures then c.put-2.ensures then c.number-3.ensures then c.put-3.ensures within omega arith)

@@ -1,18 +1,12 @@
 use native.Mathlib.Omega.{arith}
-use Rattle.pages.proofs.Appending.{appended_length}
-use Rattle.pages.proofs.Joining.{joined_none, joined_more, joined_all}
+use Rattle.rules.specs.Lists.{joined_to}
+use Rattle.text.proofs.Writing.{nothing_put}
+use Rattle.pages.proofs.Joining.{joined_more}
 use Rattle.pages.proofs.rounds.rounds.Goals as goal
 
 pub loop-r-init : goal.loop-r-init
-loop-r-init c = joined_none _ 7600 _ _ (omega (arith, c.requires))
-
-pub round-end-requires : goal.round-end-requires
-round-end-requires c = let joined = c.loop-r.invariant in
-    let counted = c.rounds_in-count.ensures in
-    (omega (arith, counted), c.requires.0, omega (arith, counted, joined.text.small, appended_length joined.text, c.requires.1))
+unfolding joined_to
+loop-r-init c = nothing_put c.args.out.now (omega arith)
 
 pub loop-r-preserved : goal.loop-r-preserved
-loop-r-preserved c = joined_more c.loop-r.invariant c.loop-r-test.true c.round-end.ensures
-
-pub returns : goal.returns
-returns c = rw (← c.rounds_in-count.ensures) (joined_all c.loop-r.invariant c.loop-r-test.false)
+loop-r-preserved c = joined_more _ 7600 c.loop-r.r c.loop-r.invariant c.round.ensures

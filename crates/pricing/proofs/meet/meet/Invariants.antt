@@ -5,8 +5,8 @@ use lib.ListN.{length}
 use Rattle.pricing.proofs.Meeting.{Walked}
 use Rattle.pricing.proofs.meet.meet.Given as goal
 
-abbrev pub invariant-loop-volume : goal.invariant-loop-volume
-invariant-loop-volume l = Walked l.bids l.buys l.bought.0 l.asks l.sells l.sold.0 l.volume.0
+abbrev pub invariant-loop-bid : goal.invariant-loop-bid
+invariant-loop-bid l = Walked l.bids l.met.buys.order l.met.buys.before.0 l.asks l.met.sells.order l.met.sells.before.0 l.met.volume.0
 
-abbrev pub decreases-loop-volume : goal.decreases-loop-volume
-decreases-loop-volume l = length l.bids + length l.asks - (l.buys + l.sells)
+abbrev pub decreases-loop-bid : goal.decreases-loop-bid
+decreases-loop-bid l = length l.bids + length l.asks - (l.met.buys.order + l.met.sells.order)

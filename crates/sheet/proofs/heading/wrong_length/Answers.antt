@@ -6,13 +6,13 @@ use Rattle.rules.proofs.Tests.{tests}
 use Rattle.sheet.proofs.Laws.{place_in}
 use Rattle.sheet.proofs.heading.wrong_length.Goals as goal
 
-pub returns-then-count-gt120 : goal.returns-then-count-gt120
+pub returns-then-heading-gt120 : goal.returns-then-heading-gt120
 unfolding length_fits
-returns-then-count-gt120 c = search tests
+returns-then-heading-gt120 c = search tests
 
 pub overflow_add-result : goal.overflow_add-result
 overflow_add-result c = omega (arith, c.heading_words.ensures.1)
 
-pub returns : goal.returns
+pub returns-else-heading-gt120 : goal.returns-else-heading-gt120
 unfolding length_fits
-returns c = rw (place_in, ← c.heading_words.ensures.0) (search tests)
+returns-else-heading-gt120 c = rw (place_in, ← c.heading_words.ensures.0) (search tests)

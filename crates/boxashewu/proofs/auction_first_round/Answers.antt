@@ -1,9 +1,0 @@
--- `auction_first_round` meets its contract: the answer of the call as a record, and the space as the call leaves it.
-use mathlib.Core.Path.{ap, ◌∙◌}
-use Rattle.boxashewu.specs.Replies.{space_reply}
-use Rattle.boxashewu.proofs.auction_first_round.Goals as goal
-
-pub returns : goal.returns
-returns c =
-    let done = c.first_round.ensures in
-    record { value = c.space_reply.ensures _ ∙ ap space_reply done.writes.answers; first_round = rw done.writes.answers at done }

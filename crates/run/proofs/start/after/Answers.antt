@@ -1,7 +1,0 @@
--- `after` meets its contract.
-use Rattle.run.specs.Starts.{start_after}
-use Rattle.run.proofs.start.after.Goals as goal
-
-pub returns : goal.returns
-unfolding start_after
-returns c = rw (c.last_after.ensures, c.less_fills.ensures)

@@ -1,7 +1,0 @@
--- `first_start` meets its contract.
-use Rattle.run.specs.Starts.{start_of}
-use Rattle.run.proofs.start.first_start.Goals as goal
-
-pub returns : goal.returns
-unfolding start_of
-returns c = rw c.quantities.ensures
