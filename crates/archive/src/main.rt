@@ -3,6 +3,8 @@
 // `pages::archive_text`. Started with any other number of arguments it reads nothing and says what it does.
 #![tactic(auto)]
 
+ghost use Rattle.std.specs.Prelude.{◌≤◌, length, IfSome};
+
 use host::{is_given, print_help, read_full, write_out};
 use std::fs::File;
 use std::rt::{Env, Files};
@@ -23,7 +25,9 @@ docs/READING.md explains the words, docs/RULES.md the rules and the refusals.
 
 // The bytes of the file that an argument names, none where it cannot be read. A name that is too long, or no UTF-8 text,
 // names no file.
-fn take<'a>(rt: &(impl Env + Files), argument: usize, bytes: &'a mut [u8]) -> Option<&'a [u8]> {
+fn take<'a>(rt: &(impl Env + Files), argument: usize, bytes: &'a mut [u8]) -> Option<&'a [u8]>
+    ensures { IfSome result (λ read. length read.now ≤ length bytes.old) }
+{
     let mut name = [0u8; 4096];
     let size = rt.arg(argument, &mut name).ok()?;
     let name = str::from_utf8(&name[..size]).ok()?;

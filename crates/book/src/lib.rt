@@ -13,7 +13,7 @@ pub mod force;
 
 // The orders of a sheet by entered limit, one line a side. The amount of an entry is one more than a Stepper ignores,
 // 0 for all others.
-#[derive(Drop)]
+#[derive(Clone, Copy)]
 pub struct Book {
     pub bids: Line,
     pub asks: Line,

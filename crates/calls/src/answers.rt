@@ -47,10 +47,10 @@ fn print_band(out: &mut impl Write, band: Band) -> io::Result<()> {
 
 fn print_clock(out: &mut impl Write, clock: Clock) -> io::Result<()> {
     match clock.phase {
-        Phase::Idle => write!(out, "0 0 0")?,
-        Phase::Waiting { start, side } => write!(out, "1 {start} {}", side.number())?,
+        Phase::Idle => write!(out, "0 0 0 ")?,
+        Phase::Waiting { start, side } => write!(out, "1 {start} {} ", side.number())?,
     }
-    writeln!(out, " {} {} {}", clock.lower.0, clock.upper.0, clock.due)
+    writeln!(out, "{} {} {}", clock.lower.0, clock.upper.0, clock.due)
 }
 
 // The calls on a list of words that give numbers, printed; none where the fields make no sense. That of a view is on a

@@ -1,5 +1,7 @@
 // The calls that write into a lent space, printed: the words written, in hexadecimal, with single spaces; where
 // fees are written too, then the word `fees` and the fees, in decimal.
+ghost use Rattle.std.specs.Prelude.{◌≤◌, length};
+
 use crate::answers::print;
 use rules::{Refusal, Tariff};
 use std::io;
@@ -12,7 +14,9 @@ const WORDS: usize = 16384;
 const PLACES: usize = 128;
 
 // As much of a room as is asked for, or all of it.
-fn lent<T>(room: &mut [T], asked: u64) -> &mut [T] {
+fn lent<T>(room: &mut [T], asked: u64) -> &mut [T]
+    ensures { length result.now ≤ length room.old }
+{
     let most = room.len() as u64;
     &mut room[..asked.min(most) as usize]
 }

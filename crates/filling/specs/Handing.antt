@@ -19,11 +19,11 @@ pub record Given (h : Heading) (a : Auction) (os : List Standing) (s : Side) (qu
   pub few : length os ≤ most_orders
   pub small : (k : ℕ) → k < length os → left os k ≤ most_pieces
 
--- Where a purchase price is the potential one, the line of side s has become the side's queue.
-abbrev pub LineQueued : Heading → Side → ℕ → List ℕ → List ℕ → Type 0
-LineQueued h s purchase old new =
-    (a : Auction) (os : List Standing) → a.situation ≡ 0 → purchase ≡ potential_purchase h a → Bounded h → LineOf s os old
-    → Given h a os s new
+-- Where a purchase price is the potential one, the line of side s has become the side's queue. It is never longer than it was.
+pub record LineQueued (h : Heading) (s : Side) (purchase : ℕ) (old new : List ℕ) : Type 0 where
+  pub within : length new ≤ length old
+  pub given : (a : Auction) (os : List Standing) → a.situation ≡ 0 → purchase ≡ potential_purchase h a → Bounded h → LineOf s os old
+      → Given h a os s new
 
 -- The orders of the side have their shares, where they had none; all other fills stay.
 pub record HandedTo (h : Heading) (a : Auction) (os : List Standing) (s : Side) (total : ℕ) (before after : List Pieces) : Type 0 where

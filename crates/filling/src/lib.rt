@@ -5,7 +5,7 @@
 mod queue;
 mod totals;
 
-ghost use Rattle.std.specs.Prelude.{List, ◌≡◌, ◌-◌, min};
+ghost use Rattle.std.specs.Prelude.{List, ◌≡◌, ◌-◌, min, length};
 ghost use Rattle.lines.specs.Pieces.{most_pieces};
 ghost use Rattle.lines.specs.Lines.{Bounded, LineOf};
 ghost use Rattle.rules.specs.AuctionPrice.{Auction, auctioned};
@@ -69,9 +69,10 @@ fn fills_from(bids: &Line, asks: &Line) -> Filled
 }
 
 // The fills of a round. In a situation other than the crossed one nobody is eligible, so the total is 0. The lines
-// are used up.
+// are used up, and as long afterwards as before.
 pub fn fills_of(heading: Heading, auction: Auctioned, bids: &mut Line, asks: &mut Line) -> Filled
-    ensures { (os : List standing.Standing) → Bounded heading → LineOf Buy os bids.old → LineOf Sell os asks.old → result ≡ filled_with heading (auctioned auction) os }
+    ensures fills { (os : List standing.Standing) → Bounded heading → LineOf Buy os bids.old → LineOf Sell os asks.old → result ≡ filled_with heading (auctioned auction) os }
+    ensures lengths { (length bids.new ≡ length bids.old) × (length asks.new ≡ length asks.old) }
 {
     if auction.situation != Situation::Crossed as u32 {
         return Filled {
@@ -80,7 +81,12 @@ pub fn fills_of(heading: Heading, auction: Auctioned, bids: &mut Line, asks: &mu
         };
     }
     let purchase = potential_purchase(heading, auction);
+    let bid = bids.len();
+    let asked = asks.len();
     queue_up(heading, Side::Buy, purchase, bids);
     queue_up(heading, Side::Sell, purchase, asks);
-    fills_from(bids, asks)
+    let filled = fills_from(bids, asks);
+    bids.lengthen(bid);
+    asks.lengthen(asked);
+    filled
 }

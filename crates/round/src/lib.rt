@@ -3,7 +3,7 @@
 
 pub mod writing;
 
-ghost use Rattle.std.specs.Prelude.{List, ◌≡◌};
+ghost use Rattle.std.specs.Prelude.{List, ◌≡◌, length};
 ghost use Rattle.book.specs.Book.{BookLine, Ranged};
 ghost use Rattle.book.specs.Filed.{remaining_in};
 ghost use Rattle.lines.specs.Lines.{Bounded, LineOf};
@@ -45,10 +45,11 @@ fn purchase_price(heading: Heading, auction: Auctioned, total: Total) -> Price
     }
 }
 
-// The rest of a round, by a given auction and the lines in force of both sides, which are used up: fills, total and
-// purchase price.
+// The rest of a round, by a given auction and the lines in force of both sides, which are used up and stay as long: fills,
+// total and purchase price.
 pub fn settle(heading: Heading, auction: Auctioned, bids: &mut Line, asks: &mut Line) -> Round
-    ensures { (os : List stood.Standing) → Bounded heading → LineOf Buy os bids.old → LineOf Sell os asks.old → handed_back result ≡ with_places (settled heading os (auctioned auction)) }
+    ensures round { (os : List stood.Standing) → Bounded heading → LineOf Buy os bids.old → LineOf Sell os asks.old → handed_back result ≡ with_places (settled heading os (auctioned auction)) }
+    ensures lengths { (length bids.new ≡ length bids.old) × (length asks.new ≡ length asks.old) }
 {
     let filled = fills_of(heading, auction, bids, asks);
     let fills = filled.fills;

@@ -2,9 +2,9 @@
 use Rattle.std.specs.Prelude.{cond, List, [], map, ◌≡◌, ℕ, ◌+◌, ◌*◌, ltb, take, drop, Ok, Err, IfOk}
 use Rattle.std.specs.Borrow.{Bor}
 use Rattle.std.specs.declared.result.Result.{Result}
-use Rattle.rules.specs.Answers.{Answer, gives, refused}
+use Rattle.rules.specs.Answers.{Answer, gives, refuses, refused}
 use Rattle.rules.specs.Result.{count, rounds_for, word_place_for, word_place, round_said}
-use Rattle.rules.specs.Stored.{StoredAnswer, answers, open_stored, stored_answer, unopened, summary_of, summary_numbers, page}
+use Rattle.rules.specs.Stored.{StoredAnswer, answers, differs, open_stored, stored_answer, opens_answer, unopened, summary_of, summary_numbers, page}
 use Rattle.rules.specs.Words.{word_of}
 use Rattle.rules.specs.declared.Refusal.{Refusal}
 use Rattle.rules.specs.declared.Unopened.{Unopened}
@@ -44,6 +44,18 @@ pub record OpensAs (ws : List ℕ) (stored : Bor (List ℕ)) (o : Result View Un
   pub answers : view_answer o ≡ stored_answer (open_stored ws stored.now)
   pub holds : IfOk o (λ v. HoldsWords v stored)
   pub orders : IfOk o (λ v. v.n ≡ count ws)
+
+-- [10.6d] The words of the view that any result has, by what is answered of it: where it opens the very list that was passed, else none.
+abbrev pub WordsBy : StoredAnswer → Bor (List ℕ) → Bor (List ℕ) → Type 0
+WordsBy (answers (gives xs)) stored words = words ≡ stored
+WordsBy (answers (refuses n k)) stored words = words.now ≡ []
+WordsBy (differs place) stored words = words.now ≡ []
+
+-- [10.6d] What opening any stored result beside the sheet ws gives: the answer of the rules, and a view with the sheet's number of orders.
+pub record ViewsAs (ws : List ℕ) (stored : Bor (List ℕ)) (o : Result (Unit {0}) Unopened × View) : Type 0 where
+  pub answers : opens_answer o.0 ≡ stored_answer (open_stored ws stored.now)
+  pub holds : WordsBy (stored_answer (open_stored ws stored.now)) stored o.1.words
+  pub orders : o.1.n ≡ count ws
 
 -- [10.6d] What is answered of a round by its page.
 abbrev pub paged_answer : Result Page Refusal → Answer

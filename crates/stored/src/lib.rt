@@ -7,14 +7,15 @@ pub mod rounds;
 
 ghost use Rattle.std.specs.Prelude.{◌≡◌};
 ghost use Rattle.rules.specs.Stored.{open_stored, stored_round, stored_answer, opens_answer, round_answer};
-ghost use Rattle.stored.specs.Views.{OpensAs, PageOf};
+ghost use Rattle.stored.specs.Views.{OpensAs, ViewsAs, PageOf};
 
 use beside::first_difference;
 use rounds::{fills_at, page_at, round_at};
 use rules::{Refusal, StoredRound, Summary, Unopened};
 use sheet::order_count;
 
-// A view over the words of a stored result of n orders. Only `open_result` makes one, where the result opens.
+// A view over the words of a stored result of n orders. `open_result` makes one where the result opens, `answer_and_view`
+// of any result.
 #[derive(Clone, Copy)]
 pub struct View<'a> {
     words: &'a [u32],
@@ -37,6 +38,25 @@ pub fn open_result<'s, 'a>(sheet: &'s [u32], stored: &'a [u32]) -> Result<View<'
         words: stored,
         n: order_count(sheet),
     })
+}
+
+// The same of any stored result: the answer, and a view, which has no words, and so no round, where the result does not open.
+pub fn answer_and_view<'s, 'a>(
+    sheet: &'s [u32],
+    stored: &'a [u32],
+) -> (Result<(), Unopened>, View<'a>)
+    ensures { ViewsAs sheet.now stored.entry result }
+{
+    match open_result(sheet, stored) {
+        Ok(view) => (Ok(()), view),
+        Err(unopened) => {
+            let none = View {
+                words: &stored[..0],
+                n: order_count(sheet),
+            };
+            (Err(unopened), none)
+        }
+    }
 }
 
 impl<'a> View<'a> {

@@ -1,5 +1,5 @@
 // Clause 10.6c: the rounds in the words of a result of n orders. Words and n may be any: a round that is not there
-// is refused. They go by themselves and not as a `View`, which holds only words that open.
+// is refused. They go by themselves and not as a `View`, which holds words that open, or none.
 ghost use Rattle.std.specs.Prelude.{◌≡◌, ◌++◌, ◌+◌, ◌≤◌, ◌<◌, length};
 ghost use Rattle.rules.specs.Result.{rounds_for, round_said_for};
 ghost use Rattle.rules.specs.Stored.{answers, summary_of, stretch_of, on_round, page, page_answer, round_answer};

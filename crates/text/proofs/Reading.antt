@@ -1,6 +1,6 @@
 -- The lines that are read, each by itself: as the text's line of that number it fits, and has that word. Each further digit makes sixteen
 -- times the number before it and the digit: eight of them make a line's word, and with digits below 16 it has 32 bits.
-use mathlib.Core.Bool.{Bool, true, false, ◌&&◌}
+use mathlib.Core.Bool.{Bool, true, false, not, cond, ◌&&◌, ◌||◌}
 use mathlib.Core.List.{List}
 use mathlib.Core.Path.{◌≡◌, refl, sym, ap, ◌∙◌}
 use Prim.Native.Nat.{ℕ, zero, suc, ◌+◌, ◌-◌, ◌*◌, ◌/◌, ◌%◌, ◌^◌, ◌≤◌, ◌<◌, zero-le}
@@ -8,11 +8,12 @@ use native.Mathlib.Nat.{pow-suc, pow-le-pow_right, zero-add}
 use native.Mathlib.Omega.{arith}
 use lib.Dec.{leb, ltb, eqb}
 use lib.ListN.{length, get_or, take, length-take}
-use borrow.Author.Tests.{ltb-true, le-leb, lt-leb}
+use borrow.Author.Tests.{ltb-true, leb-true, lt-ltb, le-leb, lt-leb}
 use Rattle.claims.proofs.Totals.{every_at, every_from}
 use Rattle.rules.proofs.Grid.{both}
 use Rattle.rules.specs.Lists.{every_to}
 use Rattle.rules.specs.Pages.{digit_value, digit_on, line_fits, most_listed, listing_fits, word_on}
+use Rattle.std.proofs.lemmas.Bool.Decides.{nat_tests}
 use Rattle.std.proofs.lemmas.List.{get_or-take}
 use Rattle.std.specs.Bool.{MatchBool}
 use Rattle.std.specs.List.{AllWithin, HoldsAt}
@@ -49,6 +50,17 @@ module _ (byte : ℕ) where
   unfolding digit_value
   letter_value low high =
       rw (le-leb 48 byte (omega arith), lt-leb byte 57 (omega arith), le-leb 97 byte low, le-leb byte 102 high)
+
+-- a byte is a digit where its value is below 16
+pub digit_tested : (byte : ℕ) → ((leb 48 byte && leb byte 57) || (leb 97 byte && leb byte 102)) ≡ ltb (digit_value byte) 16
+unfolding digit_value
+digit_tested byte = go (leb 48 byte && leb byte 57) (leb 97 byte && leb byte 102) refl refl
+  where
+    go : (figure letter : Bool) → (leb 48 byte && leb byte 57) ≡ figure → (leb 97 byte && leb byte 102) ≡ letter
+        → (figure || letter) ≡ ltb (cond figure (byte - 48) (cond letter (byte - 87) 16)) 16
+    go true letter is e = sym (lt-ltb (byte - 48) 16 (omega (arith, leb-true byte 57 (both {a = leb 48 byte} is).1)))
+    go false true is e = sym (lt-ltb (byte - 87) 16 (omega (arith, leb-true byte 102 (both {a = leb 97 byte} e).1)))
+    go false false is e = refl
 
 -- ---- The word of a line
 
@@ -120,3 +132,14 @@ unfolding listing_fits
 line_listed text fits i within =
     let lines = (both {a = eqb (length text % 9) 0 && leb (length text) most_listed} fits).1 in
     every_at (line_fits text) (length text / 9) i lines (omega arith)
+
+-- ---- Before the lines are read
+
+-- where the lines are not whole, or the text is too long, whatever the lines say
+pub unfit : (whole lines : Bool) (n most : ℕ) → (not whole || ltb most n) ≡ true → false ≡ (whole && leb n most && lines)
+unfit true lines n most e = grind (arith, nat_tests)
+unfit false lines n most e = refl
+
+pub fit : (whole lines : Bool) (n most : ℕ) → (not whole || ltb most n) ≡ false → lines ≡ (whole && leb n most && lines)
+fit true lines n most e = grind (arith, nat_tests)
+fit false lines n most e = grind (arith, nat_tests)

@@ -19,11 +19,23 @@ fn digit(byte: u8) -> Option<u32>
     }
 }
 
+// Whether a byte is a digit. Here and in `line_fits` nothing branches, so that the digits of a line are tested at once: by
+// `digit`, or with `all`, which ends at the first that is none, it takes three times as long.
+fn is_digit(byte: u8) -> bool
+    ensures { result ≡ ltb (digit_value byte) 16 }
+{
+    ((b'0' <= byte) & (byte <= b'9')) | ((b'a' <= byte) & (byte <= b'f'))
+}
+
 // Whether a line is eight digits and a newline.
 fn line_fits(line: &[u8; 9]) -> bool
     ensures { result ≡ line_fits line.now 0 }
 {
-    line[..8].iter().all(|byte| digit(*byte).is_some()) & (line[8] == b'\n')
+    let mut fits = true;
+    for byte in &line[..8] {
+        fits = fits & is_digit(*byte);
+    }
+    fits & (line[8] == b'\n')
 }
 
 // Whether a text is the lines of some words, and no more than a result has.
@@ -31,7 +43,11 @@ pub fn listing_fits(text: &[u8]) -> bool
     ensures { result ≡ listing_fits text.now }
 {
     let (lines, rest) = text.as_chunks::<9>();
-    rest.is_empty() & (text.len() <= MOST_LISTED) & lines.iter().all(line_fits)
+    // Before the lines are read: no line of a text that is too long is.
+    if !rest.is_empty() | (MOST_LISTED < text.len()) {
+        return false;
+    }
+    lines.iter().all(line_fits)
 }
 
 // The word of a line: eight digits have no more than 32 bits.

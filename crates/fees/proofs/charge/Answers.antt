@@ -1,3 +1,4 @@
+use Rattle.std.proofs.Common.{rules}
 use mathlib.Core.Path.{◌≡◌}
 use native.Mathlib.Omega.{arith}
 use lib.ListN.{length, take}
@@ -10,7 +11,7 @@ pub loop-order-init : goal.loop-order-init
 loop-order-init c = painted_none _ _
 
 pub loop-order-preserved : goal.loop-order-preserved
-loop-order-preserved c = painted_more c.loop-order.invariant 0 c.loop-order-test.true c.order_fee.ensures
+loop-order-preserved c = painted_more c.loop-order.invariant 0 c.loop-order-test.true (search rules)
 
 pub returns : goal.returns
 unfolding fees_in

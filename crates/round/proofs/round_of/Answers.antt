@@ -6,4 +6,4 @@ pub returns : goal.returns
 returns c = λ orders buy sell g.
     let b = c.line_in_force.ensures orders buy g in
     let s = c.line_in_force-2.ensures orders sell g in
-    round_is _ _ _ (c.auction_price-auction.ensures _ b s) (c.settle.ensures _ g.bounded b s)
+    round_is _ _ _ (c.auction_price-auction.ensures _ b s) (c.settle.ensures.round _ g.bounded b s)
