@@ -43,7 +43,7 @@ pub fn listing_fits(text: &[u8]) -> bool
     ensures { result ≡ listing_fits text.now }
 {
     let (lines, rest) = text.as_chunks::<9>();
-    // Before the lines are read: no line of a text that is too long is.
+    // The length first, so that of a text that is too long no line is read.
     if !rest.is_empty() | (MOST_LISTED < text.len()) {
         return false;
     }
